@@ -1,0 +1,4 @@
+pub mod Every
+pub mod Symbols
+pub mod Columns
+pub mod Numbers
