@@ -1,0 +1,20 @@
+-- The four codes as a `match` sees them: its arms are told by the codes' tags, 0 and 1 at 36 bits, 2 and 3 at 40.
+-- Assumes nothing.
+use mathlib.Core.List.{[], _∷_}
+use types.Run.{OneOf, miss}
+use denote.Enum.Declared.{tagOf}
+use Rattle.codes.proofs.code.Code.{the-type}
+use Rattle.codes.specs.declared.code.Code.{Code}
+use Rattle.codes.specs.declared.code.Code.the-variants.{O36, E36, O40, E40}
+
+pub of-36 : (P : Code → Type 0) → P O36 → P E36 → (c : Code) → OneOf (0 ∷ 1 ∷ []) (tagOf the-type c) → P c
+of-36 P o e O36 k = o
+of-36 P o e E36 k = e
+of-36 P o e O40 k = absurd (miss (0 ∷ 1 ∷ []) 2 tt k)
+of-36 P o e E40 k = absurd (miss (0 ∷ 1 ∷ []) 3 tt k)
+
+pub of-40 : (P : Code → Type 0) → P O40 → P E40 → (c : Code) → OneOf (2 ∷ 3 ∷ []) (tagOf the-type c) → P c
+of-40 P o e O36 k = absurd (miss (2 ∷ 3 ∷ []) 0 tt k)
+of-40 P o e E36 k = absurd (miss (2 ∷ 3 ∷ []) 1 tt k)
+of-40 P o e O40 k = o
+of-40 P o e E40 k = e

@@ -1,0 +1,117 @@
+-- Numbers and their digits: there and back, for bits, symbols and columns at once.
+-- A number modulo b^(k+1) is its k-th digit times b^k plus the number modulo b^k; all laws follow from that by induction on k.
+-- Assumes nothing.
+use mathlib.Core.Path.{_≡_, refl, sym, ap, ap₂, _∙_, subst}
+use mathlib.Core.Bool.{Bool, Bool-discrete}
+use mathlib.Core.List.{List, [], _∷_}
+use Prim.Native.Nat.{ℕ, zero, suc, _+_, _*_, _/_, _%_, _^_, _<_}
+use native.Mathlib.Nat.{mod-lt, mod-eq-of-lt, mod-one, mul-pos, pow-succ', pow-zero}
+use native.Mathlib.Omega.{arith}
+use lib.Arith.{digits-lt, digits-div, digits-mod, mod-mul}
+use lib.Dec.{eqb, ltb, ltb→lt, lit<}
+use lib.ListN.{length}
+use Rattle.symbols.specs.Symbol.{bit, symbolNumber}
+use Rattle.symbols.specs.Column.{one, columnNumber}
+use Rattle.symbols.proofs.Every.{bits as all-bits, law, law-below, number-discrete}
+use Rattle.symbols.proofs.Numbers.{symbol-of-number, number-of-symbol, symbol-number-lt, symbol-mod, column-of-number, number-of-column, column-number-lt, column-mod}
+use Rattle.codes.specs.Digits.{Digit, bits, symbols, columns, digits, numberOf}
+
+-- a digit type fits its base
+pub record Fit {A : Type 0} (d : Digit A) : Type 0 where
+  pub pos : 0 < d .base
+  pub small : (x : A) → d .number x < d .base
+  pub back : (x : A) → d .lowest (d .number x) ≡ x
+  pub there : (n : ℕ) → d .number (d .lowest n) ≡ n % d .base
+  pub modulo : (n : ℕ) → d .lowest (n % d .base) ≡ d .lowest n
+
+pow-pos : (b k : ℕ) → 0 < b → 0 < b ^ k
+pow-pos b zero h = rw pow-zero (lit< tt)
+pow-pos b (suc k) h = rw (pow-succ' b k) (mul-pos h (pow-pos b k h))
+
+pub bits-fit : Fit bits
+bits-fit =
+    record {
+      pos = lit< tt;
+      small = λ x. ltb→lt (one x) 2 (all-bits .at (λ x. ltb (one x) 2) tt x);
+      back = λ x. law all-bits Bool-discrete (λ x. bit 0 (one x)) (λ x. x) tt x;
+      there = λ n. bit-number n;
+      modulo = λ n. ap (λ (x : ℕ). eqb x 1) (half-mod n)
+    }
+  where
+    half-mod : (n : ℕ) → n % 2 / 1 % 2 ≡ n / 1 % 2
+    half-mod n = omega arith
+    bit-number : (n : ℕ) → one (bit 0 n) ≡ n % 2
+    bit-number n = law-below 2 number-discrete (λ k. one (eqb k 1)) (λ k. k) tt (n / 1 % 2) (mod-lt (n / 1) (lit< tt)) ∙ omega arith
+
+pub symbols-fit : Fit symbols
+symbols-fit =
+    record {
+      pos = lit< tt;
+      small = symbol-number-lt;
+      back = symbol-of-number;
+      there = λ n. ap symbolNumber (sym (symbol-mod n)) ∙ number-of-symbol (n % 4) (mod-lt n (lit< tt));
+      modulo = symbol-mod
+    }
+
+pub columns-fit : Fit columns
+columns-fit =
+    record {
+      pos = lit< tt;
+      small = column-number-lt;
+      back = column-of-number;
+      there = λ n. ap columnNumber (sym (column-mod n)) ∙ number-of-column (n % 16) (mod-lt n (lit< tt));
+      modulo = column-mod
+    }
+
+pub length-digits : {A : Type 0} (d : Digit A) (k n : ℕ) → length (digits d k n) ≡ k
+length-digits d zero n = refl
+length-digits d (suc k) n = ap suc (length-digits d k n)
+
+module _ {A : Type 0} (d : Digit A) (fit : Fit d) where
+  -- the place value of digit k
+  pub place-pos : (k : ℕ) → 0 < d .base ^ k
+  place-pos k = pow-pos (d .base) k (fit .pos)
+
+  high-digit : (k n : ℕ) → n % d .base ^ suc k ≡ (n / d .base ^ k % d .base) * d .base ^ k + n % d .base ^ k
+  high-digit k n = ap (λ (b : ℕ). n % b) (pow-succ' (d .base) k) ∙ mod-mul n (fit .pos) (place-pos k)
+
+  -- the number of a number's lowest digits
+  pub number-digits : (k n : ℕ) → numberOf d (digits d k n) ≡ n % d .base ^ k
+  number-digits zero n = sym (rw pow-zero (mod-one n))
+  number-digits (suc k) n =
+      ap₂ (λ (l x : ℕ). d .number (d .lowest (n / d .base ^ k)) * d .base ^ l + x) (length-digits d k n) (number-digits k n)
+      ∙ ap (λ (x : ℕ). x * d .base ^ k + n % d .base ^ k) (fit .there (n / d .base ^ k))
+      ∙ sym (high-digit k n)
+
+  pub number-lt : (xs : List A) → numberOf d xs < d .base ^ length xs
+  number-lt [] = rw pow-zero (lit< tt)
+  number-lt (x ∷ xs) = rw (pow-succ' (d .base) (length xs)) (digits-lt (fit .small x) (number-lt xs))
+
+  -- the lowest digits are those of the remainder
+  pub digits-remainder : (k n : ℕ) → digits d k (n % d .base ^ k) ≡ digits d k n
+  digits-remainder zero n = refl
+  digits-remainder (suc k) n =
+      let q = n / d .base ^ k % d .base in
+      let low = n % d .base ^ k in
+      let small = mod-lt n (place-pos k) in
+      let e = high-digit k n in
+      ap₂ _∷_
+      (ap (d .lowest) (ap (λ (x : ℕ). x / d .base ^ k) e ∙ digits-div q small) ∙ fit .modulo (n / d .base ^ k))
+      (sym (digits-remainder k (n % d .base ^ suc k))
+      ∙ ap (digits d k) (ap (λ (x : ℕ). x % d .base ^ k) e ∙ digits-mod q small) ∙ digits-remainder k n)
+
+  -- a list of digits is its number's
+  pub digits-number : (xs : List A) → digits d (length xs) (numberOf d xs) ≡ xs
+  digits-number [] = refl
+  digits-number (x ∷ xs) =
+      let small = number-lt xs in
+      ap₂ _∷_
+      (ap (d .lowest) (digits-div (d .number x) small) ∙ fit .back x)
+      (sym (digits-remainder (length xs) (numberOf d (x ∷ xs)))
+      ∙ ap (digits d (length xs)) (digits-mod (d .number x) small) ∙ digits-number xs)
+
+  pub digits-again : (k : ℕ) (xs : List A) → length xs ≡ k → digits d k (numberOf d xs) ≡ xs
+  digits-again k xs e = subst (λ (j : ℕ). digits d j (numberOf d xs) ≡ xs) e (digits-number xs)
+
+  pub number-again : (k n : ℕ) → n < d .base ^ k → numberOf d (digits d k n) ≡ n
+  number-again k n h = number-digits k n ∙ mod-eq-of-lt h

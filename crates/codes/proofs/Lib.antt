@@ -1,0 +1,5 @@
+pub mod Codes
+pub mod Vectors
+pub mod Digits
+pub mod Words
+pub mod Distance

@@ -1,0 +1,115 @@
+-- Words add column by column: lengths, top rows, parities and syndromes of a sum, and the sum of two codewords of one code.
+-- Assumes nothing.
+use mathlib.Core.Path.{_≡_, refl, sym, ap, ap₂, _∙_}
+use mathlib.Core.Bool.{Bool, true, false, _&&_, _||_, Bool·beq, Bool-discrete, and-eq-true-iff}
+use mathlib.Core.List.{List, [], _∷_, map}
+use Prim.Native.Nat.{ℕ, suc}
+use native.Mathlib.Omega.{arith}
+use lib.ListN.{length}
+use Rattle.symbols.specs.Symbol.{_⊻_, Symbol, add}
+use Rattle.symbols.specs.Column.{Column, value, parity, top, _⊕_}
+use Rattle.symbols.proofs.Every.{bits, _⊗_, law, implied, passes, passed}
+use Rattle.symbols.proofs.Columns.{value-add, parity-add, top-add}
+use Rattle.codes.specs.Vector.{addV, isZeroV}
+use Rattle.codes.specs.Projection.{Projection, TopRule, ruleO, ruleE, wanted, size}
+use Rattle.codes.specs.Word.{_⊞_, syndrome, syndromeOf, allParity, topRow, isCodewordOf, isCodeword}
+use Rattle.codes.proofs.Vectors.{zero-add, syndrome-add}
+
+pub length-sum : (a b : List Column) → length a ≡ length b → length (a ⊞ b) ≡ length a
+length-sum [] b e = refl
+length-sum (a ∷ xs) [] e = absurd (omega arith)
+length-sum (a ∷ xs) (b ∷ ys) e = ap suc (length-sum xs ys (omega arith))
+
+values-sum : (a b : List Column) → length a ≡ length b → map value (a ⊞ b) ≡ addV (map value a) (map value b)
+values-sum [] [] e = refl
+values-sum [] (b ∷ ys) e = absurd (omega arith)
+values-sum (a ∷ xs) [] e = absurd (omega arith)
+values-sum (a ∷ xs) (b ∷ ys) e = ap₂ _∷_ (value-add a b) (values-sum xs ys (omega arith))
+
+pub length-map : {A B : Type 0} (f : A → B) (xs : List A) → length (map f xs) ≡ length xs
+length-map f [] = refl
+length-map f (x ∷ xs) = ap suc (length-map f xs)
+
+pub syndrome-sum : (π : Projection) (a b : List Column) → length a ≡ length b → syndromeOf π (a ⊞ b) ≡ addV (syndromeOf π a) (syndromeOf π b)
+syndrome-sum π a b e =
+    ap (syndrome (π .rows) (π .matrix)) (values-sum a b e)
+    ∙ syndrome-add (π .rows) (π .matrix) (map value a) (map value b) (length-map value a ∙ e ∙ sym (length-map value b))
+
+xor-swap : (a b c d : Bool) → (a ⊻ b) ⊻ (c ⊻ d) ≡ (a ⊻ c) ⊻ (b ⊻ d)
+xor-swap a b c d =
+    law (bits ⊗ bits ⊗ bits ⊗ bits) Bool-discrete (λ (a, (b, (c, d))). (a ⊻ b) ⊻ (c ⊻ d)) (λ (a, (b, (c, d))). (a ⊻ c) ⊻ (b ⊻ d)) tt (a, (b, (c, d)))
+
+pub topRow-sum : (a b : List Column) → length a ≡ length b → topRow (a ⊞ b) ≡ topRow a ⊻ topRow b
+topRow-sum [] [] e = refl
+topRow-sum [] (b ∷ ys) e = absurd (omega arith)
+topRow-sum (a ∷ xs) [] e = absurd (omega arith)
+topRow-sum (a ∷ xs) (b ∷ ys) e =
+    ap₂ _⊻_ (top-add a b) (topRow-sum xs ys (omega arith)) ∙ xor-swap (top a) (top b) (topRow xs) (topRow ys)
+
+-- the parity of a word's columns
+pub same-bit : (a b : Bool) → Bool·beq a b ≡ true → a ≡ b
+same-bit a b e = passed (Bool-discrete a b) (implied (bits ⊗ bits) (λ (a, b). Bool·beq a b) (λ (a, b). passes (Bool-discrete a b)) tt (a, b) e)
+
+pub bit-same : (a b : Bool) → a ≡ b → Bool·beq a b ≡ true
+bit-same a b e = ap (Bool·beq a) (sym e) ∙ law bits Bool-discrete (λ a. Bool·beq a a) (λ a. true) tt a
+
+pub parity-first : (p : Bool) (c : Column) (cs : List Column) → allParity p (c ∷ cs) ≡ true → parity c ≡ p
+parity-first p c cs e = same-bit (parity c) p (and-eq-true-iff (Bool·beq (parity c) p) (allParity p cs) .0 e .0)
+
+pub parity-rest : (p : Bool) (c : Column) (cs : List Column) → allParity p (c ∷ cs) ≡ true → allParity p cs ≡ true
+parity-rest p c cs e = and-eq-true-iff (Bool·beq (parity c) p) (allParity p cs) .0 e .1
+
+pub parity-cons : (p : Bool) (c : Column) (cs : List Column) → parity c ≡ p → allParity p cs ≡ true → allParity p (c ∷ cs) ≡ true
+parity-cons p c cs e t = ap₂ _&&_ (bit-same (parity c) p e) t
+
+pub parity-sum : (p q : Bool) (a b : List Column) → allParity p a ≡ true → allParity q b ≡ true → allParity (p ⊻ q) (a ⊞ b) ≡ true
+parity-sum p q [] b s t = refl
+parity-sum p q (a ∷ xs) [] s t = refl
+parity-sum p q (a ∷ xs) (b ∷ ys) s t =
+    parity-cons (p ⊻ q) (a ⊕ b) (xs ⊞ ys)
+    (parity-add a b ∙ ap₂ _⊻_ (parity-first p a xs s) (parity-first q b ys t))
+    (parity-sum p q xs ys (parity-rest p a xs s) (parity-rest q b ys t))
+
+-- a codeword of parity p, by its parts
+pub record Codeword (π : Projection) (p : Bool) (cs : List Column) : Type 0 where
+  pub zero : isZeroV (syndromeOf π cs) ≡ true
+  pub parities : allParity p cs ≡ true
+  pub tops : topRow cs ≡ wanted (π .rule) p
+
+pub codeword-parts : (π : Projection) (p : Bool) (cs : List Column) → isCodewordOf π p cs ≡ true → Codeword π p cs
+codeword-parts π p cs e =
+    let both = and-eq-true-iff (isZeroV (syndromeOf π cs)) (allParity p cs && Bool·beq (topRow cs) (wanted (π .rule) p)) .0 e in
+    let rest = and-eq-true-iff (allParity p cs) (Bool·beq (topRow cs) (wanted (π .rule) p)) .0 (both .1) in
+    record { zero = both .0; parities = rest .0; tops = same-bit (topRow cs) (wanted (π .rule) p) (rest .1) }
+
+codeword-of : (π : Projection) (p : Bool) (cs : List Column) → Codeword π p cs → isCodewordOf π p cs ≡ true
+codeword-of π p cs k = ap₂ _&&_ (k .zero) (ap₂ _&&_ (k .parities) (bit-same (topRow cs) (wanted (π .rule) p) (k .tops)))
+
+-- a codeword has one of the two parities
+pub parity-of : (π : Projection) (cs : List Column) → isCodeword π cs ≡ true → (p : Bool) × Codeword π p cs
+unfolding isCodeword
+parity-of π cs e = go (isCodewordOf π false cs) refl e
+  where
+    go : (b : Bool) → isCodewordOf π false cs ≡ b → b || isCodewordOf π true cs ≡ true → (p : Bool) × Codeword π p cs
+    go true f t = (false, codeword-parts π false cs f)
+    go false f t = (true, codeword-parts π true cs t)
+
+or-true : (b : Bool) → b || true ≡ true
+or-true b = law bits Bool-discrete (λ b. b || true) (λ b. true) tt b
+
+pub is-codeword : (π : Projection) (p : Bool) (cs : List Column) → Codeword π p cs → isCodeword π cs ≡ true
+unfolding isCodeword
+is-codeword π false cs k = ap (λ (b : Bool). b || isCodewordOf π true cs) (codeword-of π false cs k)
+is-codeword π true cs k = ap (λ (b : Bool). isCodewordOf π false cs || b) (codeword-of π true cs k) ∙ or-true (isCodewordOf π false cs)
+
+wanted-sum : (r : TopRule) (p q : Bool) → wanted r (p ⊻ q) ≡ wanted r p ⊻ wanted r q
+wanted-sum ruleO p q = refl
+wanted-sum ruleE p q = refl
+
+pub codeword-sum : (π : Projection) (p q : Bool) (a b : List Column) → length a ≡ length b → Codeword π p a → Codeword π q b → Codeword π (p ⊻ q) (a ⊞ b)
+codeword-sum π p q a b e s t =
+    record {
+      zero = ap isZeroV (syndrome-sum π a b e) ∙ zero-add (syndromeOf π a) (syndromeOf π b) (t .zero) ∙ s .zero;
+      parities = parity-sum p q a b (s .parities) (t .parities);
+      tops = topRow-sum a b e ∙ ap₂ _⊻_ (s .tops) (t .tops) ∙ sym (wanted-sum (π .rule) p q)
+    }

@@ -1,0 +1,96 @@
+-- The four codes by their numbers, and what each word call answers (document 01, 'The four codes' and 'Refusals by what comes back').
+-- Assumes nothing.
+use mathlib.Core.Bool.{Bool, not, cond, _&&_, _||_}
+use mathlib.Core.List.{List, [], _∷_}
+use Prim.Native.Nat.{ℕ, _-_, _/_, _^_}
+use lib.Dec.{leb}
+use lib.ListN.{length, getD}
+use Rattle.codes.specs.declared.code.Code.{Code}
+use Rattle.codes.specs.declared.code.Code.the-variants.{O36, E36, O40, E40}
+use Rattle.codes.specs.declared.code.CodeFound.{CodeFound}
+use Rattle.codes.specs.declared.answer.Refusal.{Refusal}
+use Rattle.codes.specs.declared.answer.Refusal.the-variants.{UnknownCode, MessageTooLarge, WordTooWide, NotACodeword, NoneNear}
+use Rattle.codes.specs.declared.answer.Encoded.{Encoded}
+use Rattle.codes.specs.declared.answer.Decoded.{Decoded}
+use Rattle.codes.specs.declared.answer.Corrected.{Corrected}
+use Rattle.codes.specs.Answer.{Answer, accepted, refused, Row, unless}
+use Rattle.codes.specs.Projection.{Projection, ruleO, ruleE, nine, ten, width, messageBits}
+use Rattle.codes.specs.Word.{word, isCodeword}
+use Rattle.codes.specs.Message.{encode, decode}
+use Rattle.codes.specs.Mending.{Mended, near, none, mend}
+
+abbrev pub projection : Code → Projection
+projection O36 = nine ruleO
+projection E36 = nine ruleE
+projection O40 = ten ruleO
+projection E40 = ten ruleE
+
+-- 'Code 1 is 36 O, 2 is 36 E, 3 is 40 O, 4 is 40 E'
+abbrev pub codes : List Code
+codes = O36 ∷ E36 ∷ O40 ∷ E40 ∷ []
+
+abbrev pub isCode : ℕ → Bool
+isCode n = leb 1 n && leb n (length codes)
+
+abbrev pub codeOf : ℕ → Code
+codeOf n = getD codes (n - 1) O36
+
+-- 'Each code carries its own width, message size and step limit': message = step·4096 + reading
+abbrev pub stepLimit : Projection → ℕ
+stepLimit π = 2 ^ messageBits π / 4096
+
+-- 'code not 1 to 4'
+abbrev pub codeFound : ℕ → CodeFound
+codeFound n = cond (isCode n) (CodeFound.Code (codeOf n)) (CodeFound.Refused UnknownCode)
+
+-- each refusal's number
+abbrev pub refusalNumber : Refusal → ℕ
+refusalNumber UnknownCode = 1
+refusalNumber MessageTooLarge = 2
+refusalNumber WordTooWide = 3
+refusalNumber NotACodeword = 4
+refusalNumber NoneNear = 5
+
+-- the number and values of each case of an answer
+abbrev pub encodedAnswer : Encoded → Answer
+encodedAnswer (Encoded.Word w) = accepted (w ∷ [])
+encodedAnswer (Encoded.Refused r) = refused (refusalNumber r)
+
+abbrev pub decodedAnswer : Decoded → Answer
+decodedAnswer (Decoded.Message m) = accepted (m ∷ [])
+decodedAnswer (Decoded.Refused r) = refused (refusalNumber r)
+
+abbrev pub correctedAnswer : Corrected → Answer
+correctedAnswer (Corrected.Near c) = accepted (c .codeword ∷ c .message ∷ c .wrong ∷ c .marks ∷ [])
+correctedAnswer (Corrected.Refused r) = refused (refusalNumber r)
+
+abbrev pub mendedAnswer : Mended → Answer
+mendedAnswer (near c m w k) = accepted (c ∷ m ∷ w ∷ k ∷ [])
+mendedAnswer none = refused (refusalNumber NoneNear)
+
+-- the rows of the table of refusals
+abbrev pub unknownCode : ℕ → Row
+unknownCode n = record { number = 1; met = not (isCode n) }
+
+abbrev pub messageTooLarge : Projection → ℕ → Row
+messageTooLarge π m = record { number = 2; met = leb (2 ^ messageBits π) m }
+
+abbrev pub wordTooWide : Projection → ℕ → Row
+wordTooWide π w = record { number = 3; met = leb (2 ^ width π) w }
+
+abbrev pub notACodeword : Projection → ℕ → Row
+notACodeword π w = record { number = 4; met = not (isCodeword π (word π w)) }
+
+-- writing, strict reading and mending under a code
+abbrev pub writing : Projection → ℕ → Answer
+writing π m = unless (messageTooLarge π m ∷ []) (accepted (encode π m ∷ []))
+
+abbrev pub reading : Projection → ℕ → Answer
+reading π w = unless (wordTooWide π w ∷ notACodeword π w ∷ []) (accepted (decode π w ∷ []))
+
+abbrev pub mending : Projection → ℕ → ℕ → Answer
+mending π w m = unless (wordTooWide π w ∷ wordTooWide π m ∷ []) (mendedAnswer (mend π w m))
+
+-- a word call names a code by its number
+abbrev pub under : ℕ → (Projection → Answer) → Answer
+under n call = unless (unknownCode n ∷ []) (call (projection (codeOf n)))

@@ -1,0 +1,6 @@
+// Four binary codes with at least eight positions between any two codewords: writing, strict reading and mending.
+mod answer;
+mod code;
+
+pub use answer::{Corrected, Correction, Decoded, Encoded, Refusal};
+pub use code::{Code, CodeFound};
