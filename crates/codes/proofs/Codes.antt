@@ -1,11 +1,18 @@
 -- The four codes as a `match` sees them: its arms are told by the codes' tags, 0 and 1 at 36 bits, 2 and 3 at 40.
 -- Assumes nothing.
+use mathlib.Core.Path.{_≡_, refl}
+use mathlib.Core.Bool.{true}
 use mathlib.Core.List.{[], _∷_}
+use Prim.Native.Nat.{_≤_}
+use lib.Dec.{lit≤}
 use types.Run.{OneOf, miss}
 use denote.Enum.Declared.{tagOf}
 use Rattle.codes.proofs.code.Code.{the-type}
 use Rattle.codes.specs.declared.code.Code.{Code}
 use Rattle.codes.specs.declared.code.Code.the-variants.{O36, E36, O40, E40}
+use Rattle.codes.specs.Projection.{size}
+use Rattle.codes.specs.Codes.{projection}
+use Rattle.codes.proofs.Vectors.{shaped}
 
 pub of-36 : (P : Code → Type 0) → P O36 → P E36 → (c : Code) → OneOf (0 ∷ 1 ∷ []) (tagOf the-type c) → P c
 of-36 P o e O36 k = o
@@ -18,3 +25,16 @@ of-40 P o e O36 k = absurd (miss (2 ∷ 3 ∷ []) 0 tt k)
 of-40 P o e E36 k = absurd (miss (2 ∷ 3 ∷ []) 1 tt k)
 of-40 P o e O40 k = o
 of-40 P o e E40 k = e
+
+-- facts of all four codes
+pub size-le : (c : Code) → size (projection c) ≤ 10
+size-le O36 = lit≤ tt
+size-le E36 = lit≤ tt
+size-le O40 = lit≤ tt
+size-le E40 = lit≤ tt
+
+pub shape : (c : Code) → shaped (projection c .rows) (projection c .matrix) ≡ true
+shape O36 = refl
+shape E36 = refl
+shape O40 = refl
+shape E40 = refl

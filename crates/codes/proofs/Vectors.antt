@@ -89,7 +89,7 @@ abbrev pub shaped : ℕ → List (List Symbol) → Bool
 shaped r [] = true
 shaped r (h ∷ hs) = eqb (length h) r && shaped r hs
 
-length-scale : (a : Symbol) (h : List Symbol) → length (scale a h) ≡ length h
+pub length-scale : (a : Symbol) (h : List Symbol) → length (scale a h) ≡ length h
 length-scale a [] = refl
 length-scale a (x ∷ xs) = ap suc (length-scale a xs)
 

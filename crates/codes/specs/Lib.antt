@@ -6,3 +6,4 @@ pub mod Message
 pub mod Mending
 pub mod Answer
 pub mod Codes
+pub mod Walk

@@ -1,0 +1,55 @@
+-- Words in arrays: a column stored below those that are stored already, and the word that an array holds.
+-- Assumes nothing.
+use mathlib.Core.Path.{_≡_, refl, sym, ap, ap₂, _∙_}
+use mathlib.Core.List.{List, [], _∷_, _++_, map}
+use Prim.Native.Nat.{ℕ, zero, suc, _+_, _-_, _*_, _/_, _%_, _^_, _≤_, _<_}
+use native.Mathlib.Nat.{pow-suc, div-div-eq-div-mul}
+use native.Mathlib.Omega.{arith}
+use lib.ListN.{length, getD, take, drop, set, replicate, List·getD-append}
+use lib.Seq.{drop-cons, drop-set-lt, getD-set-same, lt-length-set, getD-take}
+use Rattle.symbols.specs.Symbol.{Symbol, symbolOf}
+use Rattle.symbols.specs.Column.{Column, columnOf}
+use Rattle.symbols.proofs.Numbers.{column-mod}
+use Rattle.codes.specs.Digits.{symbols, columns, digits, numberOf}
+use Rattle.codes.specs.Vector.{scale}
+use Rattle.codes.specs.Projection.{Projection, size}
+use Rattle.codes.specs.Walk.{held, scaled, scaledColumns}
+
+pub drop-set : (l : List ℕ) (j v : ℕ) → j < length l → drop j (set l j v) ≡ v ∷ drop (suc j) l
+drop-set l j v h =
+    drop-cons (set l j v) j 0 (lt-length-set l j v h) ∙ ap₂ _∷_ (getD-set-same l j v 0 h) (drop-set-lt (suc j) l j v (omega arith))
+
+-- the columns of a number, stored from the last to the first
+pub unpack-step : (l : List ℕ) (j k n : ℕ) → j < length l → map columnOf (take k (drop (suc j) l)) ≡ digits columns k n →
+    map columnOf (take (suc k) (drop j (set l j (n / 16 ^ k % 16)))) ≡ digits columns (suc k) n
+unpack-step l j k n h e =
+    ap (λ (x : List ℕ). map columnOf (take (suc k) x)) (drop-set l j (n / 16 ^ k % 16) h) ∙ ap₂ _∷_ (column-mod (n / 16 ^ k)) e
+
+pub next-digit : (k n : ℕ) → n / 16 ^ k / 16 ≡ n / 16 ^ suc k
+next-digit k n = div-div-eq-div-mul n (16 ^ k) 16 ∙ ap (λ (x : ℕ). n / x) (sym (pow-suc 16 k))
+
+-- the table of the matrix's columns times each symbol
+length-scaled : (H : List (List Symbol)) → length (scaled H) ≡ 4 * length H
+length-scaled [] = refl
+length-scaled (h ∷ hs) = omega (arith, length-scaled hs)
+
+scaled-entry : (H : List (List Symbol)) (i v : ℕ) → i < length H → v < 4 → getD (scaled H) (4 * i + v) 0 ≡ numberOf symbols (scale (symbolOf v) (getD H i []))
+scaled-entry [] i v h l = absurd (omega arith)
+scaled-entry (h ∷ hs) zero v hi hv = first v hv
+  where
+    first : (v : ℕ) → v < 4 → getD (scaled (h ∷ hs)) (4 * 0 + v) 0 ≡ numberOf symbols (scale (symbolOf v) h)
+    first zero l = refl
+    first (suc zero) l = refl
+    first (suc (suc zero)) l = refl
+    first (suc (suc (suc zero))) l = refl
+    first (suc (suc (suc (suc v)))) l = absurd (omega arith)
+scaled-entry (h ∷ hs) (suc i) v hi hv =
+    let next : 4 * suc i + v ≡ suc (suc (suc (suc (4 * i + v)))) = omega arith in
+    ap (λ (n : ℕ). getD (scaled (h ∷ hs)) n 0) next ∙ scaled-entry hs i v (omega arith) hv
+
+pub scaled-at : (π : Projection) → size π ≤ 10 → (i v : ℕ) → i < size π → v < 4 →
+    getD (scaledColumns π) (4 * i + v) 0 ≡ numberOf symbols (scale (symbolOf v) (getD (π .matrix) i []))
+scaled-at π s i v hi hv =
+    getD-take 40 (scaled (π .matrix) ++ replicate 40 0) (4 * i + v) 0 (omega arith)
+    ∙ List·getD-append (scaled (π .matrix)) (replicate 40 0) 0 (4 * i + v) (omega (arith, length-scaled (π .matrix)))
+    ∙ scaled-entry (π .matrix) i v hi hv

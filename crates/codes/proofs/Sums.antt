@@ -1,0 +1,94 @@
+-- Exclusive or and or of numbers, digit by digit: words as numbers add column by column, packed vectors symbol by symbol.
+-- Where a base is a power of two, an operation that goes bit by bit goes digit by digit: it commutes with taking a number's quotient
+-- and its remainder by a power of two, so one digit of its result is what it makes of two digits, and that is a test over all digits.
+-- Assumes nothing.
+use mathlib.Core.Path.{_≡_, refl, sym, ap, ap₂, _∙_, subst}
+use mathlib.Core.Bool.{Bool, _||_, Bool-discrete}
+use mathlib.Core.List.{List, [], _∷_}
+use Prim.Native.Nat.{ℕ, zero, suc, _+_, _*_, _/_, _%_, _^_, _<_}
+use native.Mathlib.Nat.{mod-lt, mul-zero, mul-suc, pow-zero, pow-suc}
+use lib.Bits.{bitXor, bitOr, xor-shr, xor-mod, xor-lt, or-shr, or-mod, or-lt}
+use lib.Dec.{T}
+use lib.Pow.{pow-add}
+use Rattle.symbols.specs.Symbol.{Symbol, Symbol-discrete, add}
+use Rattle.symbols.specs.Column.{Column, column, Column-discrete, _⊕_}
+use Rattle.symbols.proofs.Every.{below, at-below, passes, passed}
+use Rattle.codes.specs.Digits.{Digit, symbols, columns, digits}
+use Rattle.codes.specs.Vector.{addV}
+use Rattle.codes.specs.Projection.{Projection, size, width}
+use Rattle.codes.specs.Word.{word, _⊞_}
+use Rattle.codes.proofs.Digits.{Fit, symbols-fit, columns-fit}
+
+-- an operation on numbers that goes bit by bit
+pub record Bitwise (op : ℕ → ℕ → ℕ) : Type 0 where
+  pub quotient : (a b k : ℕ) → op a b / 2 ^ k ≡ op (a / 2 ^ k) (b / 2 ^ k)
+  pub remainder : (a b k : ℕ) → op a b % 2 ^ k ≡ op (a % 2 ^ k) (b % 2 ^ k)
+
+pub xor-bitwise : Bitwise bitXor
+xor-bitwise = record { quotient = xor-shr; remainder = xor-mod }
+
+pub or-bitwise : Bitwise bitOr
+or-bitwise = record { quotient = or-shr; remainder = or-mod }
+
+-- two lists of one length, element by element
+abbrev pub zip : {A : Type 0} → (A → A → A) → List A → List A → List A
+zip f [] ys = []
+zip f (x ∷ xs) [] = []
+zip f (x ∷ xs) (y ∷ ys) = f x y ∷ zip f xs ys
+
+pub pow-mul : (a m n : ℕ) → (a ^ m) ^ n ≡ a ^ (m * n)
+pow-mul a m zero = pow-zero (a ^ m) ∙ sym (ap (λ (x : ℕ). a ^ x) (mul-zero m) ∙ pow-zero a)
+pow-mul a m (suc n) =
+    pow-suc (a ^ m) n
+    ∙ ap (λ (x : ℕ). x * a ^ m) (pow-mul a m n)
+    ∙ sym (ap (λ (x : ℕ). a ^ x) (mul-suc m n) ∙ pow-add a (m * n) m)
+
+-- `f` on digits of w bits is what `op` does to them
+module _ {A : Type 0} (d : Digit A) (fit : Fit d) (w : ℕ) (power : d .base ≡ 2 ^ w) (same : Discrete A) (op : ℕ → ℕ → ℕ) (bitwise : Bitwise op)
+    (f : A → A → A) (test : T (below (d .base) (λ a. below (d .base) (λ b. passes (same (d .lowest (op a b)) (f (d .lowest a) (d .lowest b))))))) where
+  small-digit : (a b : ℕ) → a < d .base → b < d .base → d .lowest (op a b) ≡ f (d .lowest a) (d .lowest b)
+  small-digit a b ha hb =
+      passed (same (d .lowest (op a b)) (f (d .lowest a) (d .lowest b)))
+      (at-below (d .base) (λ b. passes (same (d .lowest (op a b)) (f (d .lowest a) (d .lowest b))))
+      (at-below (d .base) (λ a. below (d .base) (λ b. passes (same (d .lowest (op a b)) (f (d .lowest a) (d .lowest b))))) test a ha) b hb)
+
+  lowest-op : (a b : ℕ) → d .lowest (op a b) ≡ f (d .lowest a) (d .lowest b)
+  lowest-op a b =
+      sym (fit .modulo (op a b))
+      ∙ ap (d .lowest) (rw power (bitwise .remainder a b w))
+      ∙ small-digit (a % d .base) (b % d .base) (mod-lt a (fit .pos)) (mod-lt b (fit .pos))
+      ∙ ap₂ f (fit .modulo a) (fit .modulo b)
+
+  pub digits-op : (k a b : ℕ) → digits d k (op a b) ≡ zip f (digits d k a) (digits d k b)
+  digits-op zero a b = refl
+  digits-op (suc k) a b =
+      let e : d .base ^ k ≡ 2 ^ (w * k) = ap (λ (x : ℕ). x ^ k) power ∙ pow-mul 2 w k in
+      ap₂ _∷_
+      (ap (d .lowest) (rw e (bitwise .quotient a b (w * k))) ∙ lowest-op (a / d .base ^ k) (b / d .base ^ k))
+      (digits-op k a b)
+
+-- packed vectors add by exclusive or
+zip-add : (r a b : ℕ) → zip add (digits symbols r a) (digits symbols r b) ≡ addV (digits symbols r a) (digits symbols r b)
+zip-add zero a b = refl
+zip-add (suc r) a b = ap₂ _∷_ refl (zip-add r a b)
+
+pub digits-add : (r a b : ℕ) → digits symbols r (bitXor a b) ≡ addV (digits symbols r a) (digits symbols r b)
+digits-add r a b = digits-op symbols symbols-fit 2 refl Symbol-discrete bitXor xor-bitwise add tt r a b ∙ zip-add r a b
+
+-- words add by exclusive or
+zip-sum : (a b : List Column) → zip _⊕_ a b ≡ a ⊞ b
+zip-sum [] b = refl
+zip-sum (x ∷ xs) [] = refl
+zip-sum (x ∷ xs) (y ∷ ys) = ap (λ (l : List Column). (x ⊕ y) ∷ l) (zip-sum xs ys)
+
+pub word-xor : (π : Projection) (a b : ℕ) → word π (bitXor a b) ≡ word π a ⊞ word π b
+word-xor π a b =
+    digits-op columns columns-fit 4 refl (Column-discrete Bool-discrete) bitXor xor-bitwise _⊕_ tt (size π) a b
+    ∙ zip-sum (word π a) (word π b)
+
+-- words joined by or
+abbrev pub orIn : Column → Column → Column
+orIn (column a b c d) (column k l m n) = column (a || k) (b || l) (c || m) (d || n)
+
+pub word-or : (π : Projection) (a b : ℕ) → word π (bitOr a b) ≡ zip orIn (word π a) (word π b)
+word-or π a b = digits-op columns columns-fit 4 refl (Column-discrete Bool-discrete) bitOr or-bitwise orIn tt (size π) a b

@@ -1,0 +1,95 @@
+-- The walk over a word's columns, from the last to the first: each column adds its scaled column of the matrix to the syndrome, its
+-- top bit to the top row's parity and its parity to the number of odd columns.
+-- Assumes nothing.
+use mathlib.Core.Path.{_≡_, refl, sym, ap, ap₂, _∙_, subst₂}
+use mathlib.Core.Bool.{Bool, true, false, not, Bool·beq, Bool-discrete, and-eq-true-iff}
+use mathlib.Core.List.{List, [], _∷_, map}
+use Prim.Native.Nat.{ℕ, zero, suc, _+_, _*_, _/_, _^_, _≤_, _<_}
+use native.Mathlib.Nat.{zero-div}
+use native.Mathlib.Omega.{arith}
+use borrow.Author.Tests.{eqb-true}
+use lib.Bits.{bitXor}
+use lib.Dec.{eqb}
+use lib.ListN.{length, getD, take, drop, replicate, drop-of-length-le, List·getD-map}
+use lib.Seq.{drop-cons, drop-length, getD-take, length-take-le}
+use Rattle.symbols.specs.Symbol.{_⊻_, Symbol, symbolOf}
+use Rattle.symbols.specs.Column.{Column, value, parity, top, one, columnOf}
+use Rattle.symbols.proofs.Every.{bits, _⊗_, law}
+use Rattle.symbols.proofs.Symbols.{xor-comm}
+use Rattle.codes.specs.Digits.{symbols, digits, numberOf}
+use Rattle.codes.specs.Vector.{zeros, addV, scale}
+use Rattle.codes.specs.Projection.{Projection, size, count}
+use Rattle.codes.specs.Word.{syndrome, topRow}
+use Rattle.codes.specs.Walk.{held, odds, Walked}
+use Rattle.codes.proofs.Digits.{symbols-fit, digits-again}
+use Rattle.codes.proofs.Vectors.{addV-comm, shaped, length-scale}
+use Rattle.codes.proofs.Words.{length-map}
+use Rattle.codes.proofs.Sums.{digits-add}
+
+digits-zero : (r : ℕ) → digits symbols r 0 ≡ zeros r
+digits-zero zero = refl
+digits-zero (suc r) = ap₂ _∷_ (ap symbolOf (zero-div (4 ^ r))) (digits-zero r)
+
+-- before the first step nothing is collected
+pub walked-none : (r : ℕ) → Walked r [] [] 0 false 0
+walked-none r = record { syndromes = digits-zero r; tops = refl; odd = refl }
+
+-- exclusive or, as the code has it
+xor-code : (a b : Bool) → not (Bool·beq a b) ≡ a ⊻ b
+xor-code a b = law (bits ⊗ bits) Bool-discrete (λ (a, b). not (Bool·beq a b)) (λ (a, b). a ⊻ b) tt (a, b)
+
+count-cons : (b : Bool) (l : List Bool) (n : ℕ) → n ≡ count l → n + one b ≡ count (b ∷ l)
+count-cons true l n e = omega arith
+count-cons false l n e = omega arith
+
+-- one column more in front
+pub walked-more : (r : ℕ) (h : List Symbol) (H : List (List Symbol)) (c : Column) (cs : List Column) (s : ℕ) (t : Bool) (n g : ℕ) →
+    length h ≡ r → g ≡ numberOf symbols (scale (value c) h) → Walked r H cs s t n →
+    Walked r (h ∷ H) (c ∷ cs) (bitXor s g) (not (Bool·beq t (top c))) (n + one (parity c))
+walked-more r h H c cs s t n g eh eg w =
+    record {
+      syndromes =
+          digits-add r s g
+          ∙ ap₂ addV (w .syndromes) (ap (digits symbols r) eg ∙ digits-again symbols symbols-fit r (scale (value c) h) (length-scale (value c) h ∙ eh))
+          ∙ addV-comm (syndrome r H (map value cs)) (scale (value c) h);
+      tops = xor-code t (top c) ∙ ap (λ (b : Bool). b ⊻ top c) (w .tops) ∙ xor-comm (topRow cs) (top c);
+      odd = count-cons (parity c) (map parity cs) n (w .odd)
+    }
+
+shaped-at : (r : ℕ) (H : List (List Symbol)) (j : ℕ) → shaped r H ≡ true → j < length H → length (getD H j []) ≡ r
+shaped-at r [] j s l = absurd (omega arith)
+shaped-at r (h ∷ hs) zero s l = eqb-true (length h) r (and-eq-true-iff (eqb (length h) r) (shaped r hs) .0 s .0)
+shaped-at r (h ∷ hs) (suc j) s l = shaped-at r hs j (and-eq-true-iff (eqb (length h) r) (shaped r hs) .0 s .1) (omega arith)
+
+module _ (π : Projection) (shape : shaped (π .rows) (π .matrix) ≡ true) (a : List ℕ) (room : size π ≤ length a) where
+  pub length-held : length (held π a) ≡ size π
+  length-held = length-map columnOf (take (size π) a) ∙ length-take-le (size π) a room
+
+  -- an array's column j is the word's, with those behind it
+  pub held-from : (j : ℕ) → j < size π → drop j (held π a) ≡ columnOf (getD a j 0) ∷ drop (suc j) (held π a)
+  held-from j h =
+      drop-cons (held π a) j (columnOf 0) (omega (arith, length-held))
+      ∙ ap (λ (c : Column). c ∷ drop (suc j) (held π a)) (List·getD-map columnOf (take (size π) a) j 0 ∙ ap columnOf (getD-take (size π) a j 0 h))
+
+  pub walk-start : Walked (π .rows) (drop (size π) (π .matrix)) (drop (size π) (held π a)) 0 false 0
+  walk-start =
+      subst₂ (λ (H : List (List Symbol)) (cs : List Column). Walked (π .rows) H cs 0 false 0)
+      (sym (drop-length (π .matrix))) (sym (drop-of-length-le (held π a) {i = size π} (omega (arith, length-held)))) (walked-none (π .rows))
+
+  pub walk-step : (j : ℕ) → j < size π → (s : ℕ) (t : Bool) (n g : ℕ) →
+      g ≡ numberOf symbols (scale (value (columnOf (getD a j 0))) (getD (π .matrix) j [])) →
+      Walked (π .rows) (drop (suc j) (π .matrix)) (drop (suc j) (held π a)) s t n →
+      Walked (π .rows) (drop j (π .matrix)) (drop j (held π a)) (bitXor s g) (not (Bool·beq t (top (columnOf (getD a j 0))))) (n + one (parity (columnOf (getD a j 0))))
+  walk-step j h s t n g eg w =
+      let c = columnOf (getD a j 0) in
+      subst₂ (λ (H : List (List Symbol)) (cs : List Column). Walked (π .rows) H cs (bitXor s g) (not (Bool·beq t (top c))) (n + one (parity c)))
+      (sym (drop-cons (π .matrix) j [] h)) (sym (held-from j h))
+      (walked-more (π .rows) (getD (π .matrix) j []) (drop (suc j) (π .matrix)) c (drop (suc j) (held π a)) s t n g (shaped-at (π .rows) (π .matrix) j shape h) eg w)
+
+pub odds-le : (cs : List Column) → odds cs ≤ length cs
+odds-le [] = omega arith
+odds-le (c ∷ cs) = go (parity c) (odds-le cs)
+  where
+    go : (b : Bool) → odds cs ≤ length cs → count (b ∷ map parity cs) ≤ suc (length cs)
+    go true h = omega arith
+    go false h = omega arith

@@ -1,0 +1,85 @@
+-- `codes::word::unpack` meets its contract. With k columns stored, they are the lowest k digits of the word, and what is left is the
+-- word divided by 16 to the power k.
+-- Assumes nothing.
+use mathlib.Core.Path.{_≡_, refl, sym, ap, ap₂, _∙_, subst}
+use mathlib.Core.List.{map}
+use Prim.Native.Nat.{ℕ, suc, _-_, _/_, _%_, _^_, _≤_}
+use native.Mathlib.Nat.{div-one}
+use native.Mathlib.Omega.{arith}
+use borrow.Author.Needs.{needs}
+use lib.ListN.{length, take, drop, set, replicate, length-set}
+use Rattle.symbols.specs.Column.{columnOf}
+use Rattle.codes.specs.Digits.{columns, digits}
+use Rattle.codes.specs.Projection.{size}
+use Rattle.codes.specs.Codes.{projection}
+use Rattle.codes.proofs.Arrays.{unpack-step, next-digit}
+use Rattle.codes.proofs.Codes.{size-le}
+use Rattle.codes.proofs.word.unpack.Statement.{statement}
+use Rattle.codes.proofs.word.unpack.Tie as tie
+
+abbrev Inv-loop : tie.InvT-loop
+Inv-loop packed stored₀ rest₀ i₀ stored rest i =
+    (i ≤ i₀) × (i₀ ≤ 10) × (length stored ≡ 10) × (rest ≡ packed / 16 ^ (i₀ - i)) × (map columnOf (take (i₀ - i) (drop i stored)) ≡ digits columns (i₀ - i) packed)
+
+abbrev μ-loop : tie.MeasureT-loop
+μ-loop packed stored₀ rest₀ i₀ stored rest i = i
+
+columns-requires : tie.Need-columns-requires Inv-loop μ-loop
+columns-requires c κs = search needs
+
+loop-holds : tie.Need-loop-holds Inv-loop μ-loop
+loop-holds c =
+    let m = c .columns .result in
+    let none : m - m ≡ 0 = omega arith in
+    (omega arith, omega (arith, c .columns .ensures, size-le (c .before .args .code)), refl,
+    sym (ap (λ (k : ℕ). c .before .args .packed / 16 ^ k) none ∙ div-one (c .before .args .packed)),
+    ap (λ (k : ℕ). map columnOf (take k (drop m (replicate 10 0)))) none ∙ sym (ap (λ (k : ℕ). digits columns k (c .before .args .packed)) none))
+
+sub-i : tie.Need-sub-i Inv-loop μ-loop
+sub-i c = omega arith
+
+cast-columns : tie.Need-cast-columns Inv-loop μ-loop
+cast-columns c = omega arith
+
+array-write-columns : tie.Need-array-write-columns Inv-loop μ-loop
+array-write-columns c = omega arith
+
+loop-less : tie.Need-loop-less Inv-loop μ-loop
+loop-less c = omega arith
+
+loop-again : tie.Need-loop-again Inv-loop μ-loop
+loop-again c =
+    let l = c .before .loop in
+    let n = c .before .before .before .args .packed in
+    let m = c .before .before .columns .result in
+    let k = m - l .i in
+    let more : m - (l .i - 1) ≡ suc k = omega arith in
+    let next : suc (l .i - 1) ≡ l .i = omega arith in
+    (omega arith, omega arith, simp length-set (l .inv .2),
+    ap (λ (x : ℕ). x / 16) (l .inv .3) ∙ next-digit k n ∙ ap (λ (j : ℕ). n / 16 ^ j) (sym more),
+    ap₂ (λ (j v : ℕ). map columnOf (take j (drop (l .i - 1) (set (l .columns) (l .i - 1) (v % 16))))) more (l .inv .3)
+    ∙ unpack-step (l .columns) (l .i - 1) k n (omega arith) (ap (λ (j : ℕ). map columnOf (take k (drop j (l .columns)))) next ∙ l .inv .4)
+    ∙ ap (λ (j : ℕ). digits columns j n) (sym more))
+
+returns : tie.Need-returns Inv-loop μ-loop
+returns c =
+    let l = c .before .loop in
+    let n = c .before .before .before .args .packed in
+    let whole : c .before .before .columns .result - l .i ≡ size (projection (c .before .before .before .args .code)) = omega (arith, c .before .before .columns .ensures) in
+    let first : l .i ≡ 0 = omega arith in
+    ap₂ (λ (j k : ℕ). map columnOf (take j (drop k (l .columns)))) (sym whole) (sym first) ∙ l .inv .4 ∙ ap (λ (k : ℕ). digits columns k n) whole
+
+pub unpack-spec : {M : Type 1} → statement M
+unpack-spec =
+    tie.close
+    (tie.spec
+    Inv-loop
+    μ-loop
+    columns-requires
+    loop-holds
+    sub-i
+    cast-columns
+    array-write-columns
+    loop-less
+    loop-again
+    returns)

@@ -1,0 +1,37 @@
+-- What the private steps of this crate hand on to each other: a word in an array, and one walk over its columns. Nothing public rests on it.
+-- Assumes nothing.
+use mathlib.Core.Path.{_≡_}
+use mathlib.Core.Bool.{Bool}
+use mathlib.Core.List.{List, [], _∷_, _++_, map}
+use Prim.Native.Nat.{ℕ, _+_, _*_}
+use lib.ListN.{take, replicate}
+use Rattle.symbols.specs.Symbol.{Symbol, s0, s1, s2, s3}
+use Rattle.symbols.specs.Column.{Column, value, parity, columnOf}
+use Rattle.codes.specs.Digits.{symbols, digits, numberOf}
+use Rattle.codes.specs.Vector.{scale}
+use Rattle.codes.specs.Projection.{Projection, size, count}
+use Rattle.codes.specs.Word.{syndrome, topRow}
+
+-- the word that an array of columns holds: a code uses the first m of them
+abbrev pub held : Projection → List ℕ → List Column
+held π a = map columnOf (take (size π) a)
+
+-- the columns of a matrix times 0, 1, 2 and 3, each packed into a number, first row highest
+abbrev pub scaled : List (List Symbol) → List ℕ
+scaled [] = []
+scaled (h ∷ hs) =
+    numberOf symbols (scale s0 h) ∷ numberOf symbols (scale s1 h) ∷ numberOf symbols (scale s2 h) ∷ numberOf symbols (scale s3 h) ∷ scaled hs
+
+-- the same in an array for ten columns
+abbrev pub scaledColumns : Projection → List ℕ
+scaledColumns π = take 40 (scaled (π .matrix) ++ replicate 40 0)
+
+-- the number of odd columns
+abbrev pub odds : List Column → ℕ
+odds cs = count (map parity cs)
+
+-- a packed vector, a bit and a number are a word's syndrome, its top row's parity and the number of its odd columns
+pub record Walked (rows : ℕ) (H : List (List Symbol)) (cs : List Column) (s : ℕ) (t : Bool) (n : ℕ) : Type 0 where
+  pub syndromes : digits symbols rows s ≡ syndrome rows H (map value cs)
+  pub tops : t ≡ topRow cs
+  pub odd : n ≡ odds cs
