@@ -6,3 +6,6 @@ pub mod Sums
 pub mod Walks
 pub mod Words
 pub mod Distance
+pub mod Placing
+pub mod Encoding
+pub mod Messages

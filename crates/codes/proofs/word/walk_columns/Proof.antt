@@ -18,7 +18,7 @@ use Rattle.codes.specs.Vector.{scale}
 use Rattle.codes.specs.Projection.{size}
 use Rattle.codes.specs.Codes.{projection}
 use Rattle.codes.specs.Walk.{held, Walked}
-use Rattle.codes.proofs.Codes.{size-le, shape}
+use Rattle.codes.proofs.Codes.{size-le, systematic}
 use Rattle.codes.proofs.Walks.{walk-start, walk-step}
 use Rattle.codes.proofs.word.walk_columns.Statement.{statement}
 use Rattle.codes.proofs.word.walk_columns.Tie as tie
@@ -42,7 +42,7 @@ loop-holds c =
     let code = c .before .args .code in
     let full = c .columns .ensures in
     (omega arith,
-    subst (From code (c .before .args .t3) 0 false 0) (sym full) (walk-start (projection code) (shape code) (c .before .args .t3) (omega (arith, size-le code))),
+    subst (From code (c .before .args .t3) 0 false 0) (sym full) (walk-start (projection code) (systematic code .shape) (c .before .args .t3) (omega (arith, size-le code))),
     omega (arith, size-le code))
 
 sub-i : tie.Need-sub-i Inv-loop μ-loop
@@ -86,7 +86,7 @@ loop-again c =
     let next : suc (l .i - 1) ≡ l .i = omega arith in
     let symbol : symbolOf (c .before .before .before .before .value .result) ≡ value column =
         ap symbolOf (c .before .before .before .before .value .ensures) ∙ symbol-of-number (value column) in
-    let here = walk-step (projection code) (shape code) a (omega (arith, size-le code)) (l .i - 1) (omega arith) (l .syndrome) (l .top) (l .odd)
+    let here = walk-step (projection code) (systematic code .shape) a (omega (arith, size-le code)) (l .i - 1) (omega arith) (l .syndrome) (l .top) (l .odd)
         (c .before .before .before .scaled-at .result)
         (c .before .before .before .scaled-at .ensures ∙ ap (λ (v : Symbol). numberOf symbols (scale v (getD (projection code .matrix) (l .i - 1) []))) symbol)
         (subst (From code a (l .syndrome) (l .top) (l .odd)) (sym next) (l .inv .1)) in

@@ -1,0 +1,149 @@
+-- Messages and codewords: a message's columns are a codeword and say the message again, and a codeword is that of its own message.
+-- A column is fixed by parity, value and top bit; the values are fixed by the free ones, the top bits by all but the last.
+-- Assumes nothing.
+use mathlib.Core.Path.{_≡_, refl, sym, ap, ap₂, _∙_}
+use mathlib.Core.Bool.{Bool, true, false, Bool-discrete}
+use mathlib.Core.List.{List, [], _∷_, map}
+use Prim.Native.Nat.{ℕ, suc, _+_, _-_, _<_}
+use native.Mathlib.Omega.{arith}
+use lib.ListN.{length}
+use Rattle.symbols.specs.Symbol.{_⊻_, Symbol}
+use Rattle.symbols.specs.Column.{Column, value, parity, top, columnWith}
+use Rattle.symbols.proofs.Every.{bits, _⊗_, law}
+use Rattle.symbols.proofs.Columns.{with-of, parity-with, value-with, top-with}
+use Rattle.codes.specs.Vector.{isZeroV}
+use Rattle.codes.specs.Projection.{Projection, wanted, count, size, topBits}
+use Rattle.codes.specs.Word.{syndrome, allParity, topRow}
+use Rattle.codes.specs.Message.{Message, allValues, allTops, columnsWith, codewordOf, chosen, firstParity, butLast, messageIn}
+use Rattle.codes.proofs.Words.{Codeword, length-map, parity-first, parity-rest, parity-cons}
+use Rattle.codes.proofs.Placing.{Systematic, length-values, values-zero, chosen-values, values-chosen, length-chosen}
+
+-- columns of one parity by their values and top bits
+pub length-with : (p : Bool) (vs : List Symbol) (ts : List Bool) → length vs ≡ length ts → length (columnsWith p vs ts) ≡ length vs
+length-with p [] ts e = refl
+length-with p (v ∷ vs) [] e = absurd (omega arith)
+length-with p (v ∷ vs) (t ∷ ts) e = ap suc (length-with p vs ts (omega arith))
+
+with-parity : (p : Bool) (vs : List Symbol) (ts : List Bool) → allParity p (columnsWith p vs ts) ≡ true
+with-parity p [] ts = refl
+with-parity p (v ∷ vs) [] = refl
+with-parity p (v ∷ vs) (t ∷ ts) = parity-cons p (columnWith p v t) (columnsWith p vs ts) (parity-with p v t) (with-parity p vs ts)
+
+with-values : (p : Bool) (vs : List Symbol) (ts : List Bool) → length vs ≡ length ts → map value (columnsWith p vs ts) ≡ vs
+with-values p [] ts e = refl
+with-values p (v ∷ vs) [] e = absurd (omega arith)
+with-values p (v ∷ vs) (t ∷ ts) e = ap₂ _∷_ (value-with p v t) (with-values p vs ts (omega arith))
+
+with-tops : (p : Bool) (vs : List Symbol) (ts : List Bool) → length vs ≡ length ts → map top (columnsWith p vs ts) ≡ ts
+with-tops p [] [] e = refl
+with-tops p [] (t ∷ ts) e = absurd (omega arith)
+with-tops p (v ∷ vs) [] e = absurd (omega arith)
+with-tops p (v ∷ vs) (t ∷ ts) e = ap₂ _∷_ (top-with p v t) (with-tops p vs ts (omega arith))
+
+pub columns-with : (p : Bool) (cs : List Column) → allParity p cs ≡ true → columnsWith p (map value cs) (map top cs) ≡ cs
+columns-with p [] e = refl
+columns-with p (c ∷ cs) e =
+    ap₂ _∷_ (ap (λ (q : Bool). columnWith q (value c) (top c)) (sym (parity-first p c cs e)) ∙ with-of c) (columns-with p cs (parity-rest p c cs e))
+
+-- the last top bit
+xors : List Bool → Bool
+xors [] = false
+xors (b ∷ bs) = b ⊻ xors bs
+
+top-row : (cs : List Column) → topRow cs ≡ xors (map top cs)
+unfolding xors
+top-row [] = refl
+top-row (c ∷ cs) = ap (λ (b : Bool). top c ⊻ b) (top-row cs)
+
+xor-false : (a : Bool) → a ⊻ false ≡ a
+xor-false a = law bits Bool-discrete (λ a. a ⊻ false) (λ a. a) tt a
+
+xor-twice : (a b : Bool) → a ⊻ (a ⊻ b) ≡ b
+xor-twice a b = law (bits ⊗ bits) Bool-discrete (λ (a, b). a ⊻ (a ⊻ b)) (λ (a, b). b) tt (a, b)
+
+length-tops : (t : Bool) (bs : List Bool) → length (allTops t bs) ≡ suc (length bs)
+length-tops t [] = refl
+length-tops t (b ∷ bs) = ap suc (length-tops (b ⊻ t) bs)
+
+xor-tops : (t : Bool) (bs : List Bool) → xors (allTops t bs) ≡ t
+unfolding xors
+xor-tops t [] = xor-false t
+xor-tops t (b ∷ bs) = ap (λ (x : Bool). b ⊻ x) (xor-tops (b ⊻ t) bs) ∙ xor-twice b t
+
+but-last-tops : (t : Bool) (bs : List Bool) → butLast (allTops t bs) ≡ bs
+but-last-tops t [] = refl
+but-last-tops t (b ∷ []) = refl
+but-last-tops t (b ∷ (c ∷ bs)) = ap (λ (x : List Bool). b ∷ x) (but-last-tops (b ⊻ t) (c ∷ bs))
+
+tops-but-last : (t : Bool) (bs : List Bool) → 0 < length bs → t ≡ xors bs → allTops t (butLast bs) ≡ bs
+unfolding xors
+tops-but-last t [] h e = absurd (omega arith)
+tops-but-last t (b ∷ []) h e = ap (λ (x : Bool). x ∷ []) (e ∙ xor-false b)
+tops-but-last t (b ∷ (c ∷ bs)) h e =
+    ap (λ (x : List Bool). b ∷ x) (tops-but-last (b ⊻ t) (c ∷ bs) (omega arith) (ap (λ (x : Bool). b ⊻ x) e ∙ xor-twice b (c ⊻ xors bs)))
+
+pub length-but-last : (bs : List Bool) → length (butLast bs) ≡ length bs - 1
+length-but-last [] = refl
+length-but-last (b ∷ []) = refl
+length-but-last (b ∷ (c ∷ bs)) = ap suc (length-but-last (c ∷ bs)) ∙ omega arith
+
+-- a message that has the sizes of a code
+pub record Sized (π : Projection) (m : Message) : Type 0 where
+  pub values : length (m .values) ≡ count (π .free)
+  pub tops : length (m .tops) ≡ topBits π
+
+first-parity : (p : Bool) (cs : List Column) → 0 < length cs → allParity p cs ≡ true → firstParity cs ≡ p
+first-parity p [] h e = absurd (omega arith)
+first-parity p (c ∷ cs) h e = parity-first p c cs e
+
+module _ (π : Projection) (sys : Systematic π) where
+  module _ (m : Message) (fit : Sized π m) where
+    abbrev tops : List Bool
+    tops = allTops (wanted (π .rule) (m .parity)) (m .tops)
+
+    as-many : length (allValues π (m .values)) ≡ length (allTops (wanted (π .rule) (m .parity)) (m .tops))
+    as-many = omega (arith, length-values π sys (m .values), length-tops (wanted (π .rule) (m .parity)) (m .tops), fit .tops, sys .some)
+
+    pub length-codeword : length (codewordOf π m) ≡ size π
+    length-codeword = length-with (m .parity) (allValues π (m .values)) tops as-many ∙ length-values π sys (m .values)
+
+    values-of : map value (codewordOf π m) ≡ allValues π (m .values)
+    values-of = with-values (m .parity) (allValues π (m .values)) tops as-many
+
+    tops-of : map top (codewordOf π m) ≡ allTops (wanted (π .rule) (m .parity)) (m .tops)
+    tops-of = with-tops (m .parity) (allValues π (m .values)) tops as-many
+
+    -- a message's columns are a codeword
+    pub codeword-is : Codeword π (m .parity) (codewordOf π m)
+    codeword-is =
+        record {
+          zero = ap (λ (vs : List Symbol). isZeroV (syndrome (π .rows) (π .matrix) vs)) values-of ∙ values-zero π sys (m .values);
+          parities = with-parity (m .parity) (allValues π (m .values)) tops;
+          tops = top-row (codewordOf π m) ∙ ap xors tops-of ∙ xor-tops (wanted (π .rule) (m .parity)) (m .tops)
+        }
+
+    -- and they say the message again
+    pub message-of-codeword : messageIn π (codewordOf π m) ≡ m
+    message-of-codeword =
+        let ep = first-parity (m .parity) (codewordOf π m) (omega (arith, length-codeword, sys .some)) (codeword-is .parities) in
+        let ev = ap (chosen (π .free)) values-of ∙ chosen-values π sys (m .values) (fit .values) in
+        let et = ap butLast tops-of ∙ but-last-tops (wanted (π .rule) (m .parity)) (m .tops) in
+        λ i. record { parity = ep i; values = ev i; tops = et i }
+
+  -- a codeword is that of its message
+  module _ (p : Bool) (cs : List Column) (long : length cs ≡ size π) (is : Codeword π p cs) where
+    pub sized : Sized π (messageIn π cs)
+    sized =
+        record {
+          values = length-chosen (π .free) (map value cs) (length-map value cs ∙ long ∙ sym (sys .marks));
+          tops = length-but-last (map top cs) ∙ omega (arith, length-map top cs)
+        }
+
+    pub codeword-of-message : codewordOf π (messageIn π cs) ≡ cs
+    codeword-of-message =
+        let ep = first-parity p cs (omega (arith, sys .some)) (is .parities) in
+        ap (λ (q : Bool). columnsWith q (allValues π (messageIn π cs .values)) (allTops (wanted (π .rule) q) (messageIn π cs .tops))) ep
+        ∙ ap₂ (columnsWith p)
+        (values-chosen π sys (map value cs) (length-map value cs ∙ long) (is .zero))
+        (tops-but-last (wanted (π .rule) p) (map top cs) (omega (arith, length-map top cs, sys .some)) (sym (is .tops) ∙ top-row cs))
+        ∙ columns-with p cs (is .parities)

@@ -1,0 +1,138 @@
+-- Messages and words as numbers: what holds of lists of columns, of the numbers that the calls take and give.
+-- A message's number has p highest, then the free values in base 4, then the top bits in base 2, so that its parts are quotients
+-- and remainders by powers of two.
+-- Assumes nothing.
+use mathlib.Core.Path.{_≡_, refl, sym, ap, ap₂, _∙_, subst}
+use mathlib.Core.Bool.{Bool, true, false}
+use mathlib.Core.List.{List, [], _∷_, map}
+use Prim.Native.Nat.{ℕ, suc, _+_, _*_, _/_, _%_, _^_, _<_}
+use native.Mathlib.Nat.{mod-lt, mod-eq-of-lt, div-add-mod', div-div-eq-div-mul, mul-comm}
+use native.Mathlib.Omega.{arith}
+use lib.Arith.{digits-lt, digits-div, digits-mod, mod-mul}
+use lib.Dec.{eqb, lit<}
+use lib.ListN.{length}
+use lib.Pow.{pow-add, shr-lt, pow-pos}
+use Rattle.symbols.specs.Symbol.{Symbol, bit}
+use Rattle.symbols.specs.Column.{Column, one}
+use Rattle.codes.specs.Digits.{bits, symbols, columns, digits, numberOf}
+use Rattle.codes.specs.Projection.{Projection, count, size, width, topBits, messageBits}
+use Rattle.codes.specs.Word.{word, isCodeword}
+use Rattle.codes.specs.Message.{Message, messageOf, messageNumber, messageIn, codewordOf, encode, decode}
+use Rattle.codes.proofs.Digits.{bits-fit, symbols-fit, columns-fit, length-digits, place-pos, number-digits, number-lt, digits-remainder, digits-again, number-again}
+use Rattle.codes.proofs.Sums.{pow-mul}
+use Rattle.codes.proofs.Words.{Codeword, parity-of, is-codeword}
+use Rattle.codes.proofs.Placing.{Systematic}
+use Rattle.codes.proofs.Encoding.{Sized, length-codeword, codeword-is, message-of-codeword, sized, codeword-of-message}
+
+module _ (π : Projection) where
+  abbrev F : ℕ
+  F = count (π .free)
+
+  abbrev K : ℕ
+  K = topBits π
+
+  -- four to the power of the free values
+  fours : 4 ^ count (π .free) ≡ 2 ^ (2 * count (π .free))
+  fours = pow-mul 2 2 F
+
+  pub message-sized : (n : ℕ) → Sized π (messageOf π n)
+  message-sized n = record { values = length-digits symbols F (n / 2 ^ K); tops = length-digits bits K n }
+
+  -- p is the bit above the values
+  high-bit : (n : ℕ) → bit (2 * count (π .free) + topBits π) n ≡ bit 0 (n / 2 ^ topBits π / 4 ^ count (π .free))
+  high-bit n =
+      let e : n / 2 ^ (2 * F + K) ≡ n / 2 ^ K / 4 ^ F / 1 =
+          ap (λ (x : ℕ). n / x) (pow-add 2 (2 * F) K ∙ mul-comm (2 ^ (2 * F)) (2 ^ K)) ∙ sym (div-div-eq-div-mul n (2 ^ K) (2 ^ (2 * F)))
+          ∙ ap (λ (x : ℕ). n / 2 ^ K / x) (sym fours) ∙ omega arith in
+      ap (λ (x : ℕ). eqb (x % 2) 1) e
+
+  -- p and the values together
+  twice-fours : 2 ^ (1 + 2 * count (π .free)) ≡ 2 * 4 ^ count (π .free)
+  twice-fours = pow-add 2 1 (2 * F) ∙ ap (λ (x : ℕ). 2 * x) (sym fours)
+
+  pub message-number : (n : ℕ) → n < 2 ^ messageBits π → messageNumber π (messageOf π n) ≡ n
+  message-number n h =
+      let q = n / 2 ^ K in
+      let below : q < 2 * 4 ^ F = subst (λ (x : ℕ). q < x) twice-fours (shr-lt (1 + 2 * F) K h) in
+      let p : one (bit (2 * F + K) n) ≡ q / 4 ^ F % 2 = ap one (high-bit n) ∙ bits-fit .there (q / 4 ^ F) in
+      let high : one (bit (2 * F + K) n) * 4 ^ F + numberOf symbols (digits symbols F q) ≡ q =
+          ap₂ (λ (x y : ℕ). x * 4 ^ F + y) p (number-digits symbols symbols-fit F q)
+          ∙ sym (mod-mul q (lit< tt) (place-pos symbols symbols-fit F)) ∙ mod-eq-of-lt below in
+      ap₂ (λ (x y : ℕ). x * 2 ^ K + y) high (number-digits bits bits-fit K n) ∙ div-add-mod' n (2 ^ K)
+
+  module _ (m : Message) (s : Sized π m) where
+    abbrev A : ℕ
+    A = one (m .parity) * 4 ^ F + numberOf symbols (m .values)
+
+    low : numberOf bits (m .tops) < 2 ^ topBits π
+    low = subst (λ (k : ℕ). numberOf bits (m .tops) < 2 ^ k) (s .tops) (number-lt bits bits-fit (m .tops))
+
+    middle : numberOf symbols (m .values) < 4 ^ count (π .free)
+    middle = subst (λ (k : ℕ). numberOf symbols (m .values) < 4 ^ k) (s .values) (number-lt symbols symbols-fit (m .values))
+
+    pub message-below : messageNumber π m < 2 ^ messageBits π
+    message-below =
+        subst (λ (x : ℕ). messageNumber π m < x) (sym (pow-add 2 (1 + 2 * F) K))
+        (digits-lt (subst (λ (x : ℕ). A < x) (sym twice-fours) (digits-lt (bits-fit .small (m .parity)) middle)) low)
+
+    pub number-message : messageOf π (messageNumber π m) ≡ m
+    number-message =
+        let high : messageNumber π m / 2 ^ K ≡ A = digits-div A low in
+        let ep : bit (2 * F + K) (messageNumber π m) ≡ m .parity =
+            high-bit (messageNumber π m) ∙ ap (λ (x : ℕ). bit 0 (x / 4 ^ F)) high
+            ∙ ap (bit 0) (digits-div (one (m .parity)) middle) ∙ bits-fit .back (m .parity) in
+        let ev : digits symbols F (messageNumber π m / 2 ^ K) ≡ m .values =
+            ap (digits symbols F) high ∙ sym (digits-remainder symbols symbols-fit F A)
+            ∙ ap (digits symbols F) (digits-mod (one (m .parity)) middle) ∙ digits-again symbols symbols-fit F (m .values) (s .values) in
+        let et : digits bits K (messageNumber π m) ≡ m .tops =
+            sym (digits-remainder bits bits-fit K (messageNumber π m))
+            ∙ ap (digits bits K) (digits-mod A low) ∙ digits-again bits bits-fit K (m .tops) (s .tops) in
+        λ i. record { parity = ep i; values = ev i; tops = et i }
+
+  -- words have the code's width
+  sixteens : 16 ^ size π ≡ 2 ^ width π
+  sixteens = pow-mul 2 4 (size π)
+
+module _ (π : Projection) (sys : Systematic π) where
+  -- the columns of a message's codeword
+  pub word-encode : (n : ℕ) → word π (encode π n) ≡ codewordOf π (messageOf π n)
+  unfolding encode
+  word-encode n = digits-again columns columns-fit (size π) (codewordOf π (messageOf π n)) (length-codeword π sys (messageOf π n) (message-sized π n))
+
+  pub encode-below : (n : ℕ) → encode π n < 2 ^ width π
+  unfolding encode
+  encode-below n =
+      subst (λ (x : ℕ). encode π n < x) (sixteens π)
+      (subst (λ (k : ℕ). encode π n < 16 ^ k) (length-codeword π sys (messageOf π n) (message-sized π n)) (number-lt columns columns-fit (codewordOf π (messageOf π n))))
+
+  pub encode-codeword : (n : ℕ) → isCodeword π (word π (encode π n)) ≡ true
+  encode-codeword n =
+      ap (isCodeword π) (word-encode n)
+      ∙ is-codeword π (messageOf π n .parity) (codewordOf π (messageOf π n)) (codeword-is π sys (messageOf π n) (message-sized π n))
+
+  pub decode-encode : (n : ℕ) → n < 2 ^ messageBits π → decode π (encode π n) ≡ n
+  unfolding decode
+  decode-encode n h =
+      ap (λ (cs : List Column). messageNumber π (messageIn π cs)) (word-encode n)
+      ∙ ap (messageNumber π) (message-of-codeword π sys (messageOf π n) (message-sized π n)) ∙ message-number π n h
+
+  module _ (x : ℕ) (h : x < 2 ^ width π) (c : isCodeword π (word π x) ≡ true) where
+    abbrev cs : List Column
+    cs = word π x
+
+    parts : (p : Bool) × Codeword π p (word π x)
+    parts = parity-of π cs c
+
+    fit : Sized π (messageIn π (word π x))
+    fit = sized π sys (parts .0) cs (length-digits columns (size π) x) (parts .1)
+
+    pub decode-below : decode π x < 2 ^ messageBits π
+    unfolding decode
+    decode-below = message-below π (messageIn π cs) fit
+
+    pub encode-decode : encode π (decode π x) ≡ x
+    unfolding encode decode
+    encode-decode =
+        ap (λ (m : Message). numberOf columns (codewordOf π m)) (number-message π (messageIn π cs) fit)
+        ∙ ap (numberOf columns) (codeword-of-message π sys (parts .0) cs (length-digits columns (size π) x) (parts .1))
+        ∙ number-again columns columns-fit (size π) x (subst (λ (y : ℕ). x < y) (sym (sixteens π)) h)
