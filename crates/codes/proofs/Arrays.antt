@@ -3,7 +3,7 @@
 use mathlib.Core.Path.{_≡_, refl, sym, ap, ap₂, _∙_}
 use mathlib.Core.List.{List, [], _∷_, _++_, map}
 use Prim.Native.Nat.{ℕ, zero, suc, _+_, _-_, _*_, _/_, _%_, _^_, _≤_, _<_}
-use native.Mathlib.Nat.{pow-suc, div-div-eq-div-mul}
+use native.Mathlib.Nat.{add-zero, zero-add, pow-suc, div-div-eq-div-mul}
 use native.Mathlib.Omega.{arith}
 use lib.ListN.{length, getD, take, drop, set, replicate, List·getD-append}
 use lib.Seq.{drop-cons, drop-set-lt, getD-set-same, lt-length-set, getD-take}
@@ -53,3 +53,18 @@ scaled-at π s i v hi hv =
     getD-take 40 (scaled (π .matrix) ++ replicate 40 0) (4 * i + v) 0 (omega arith)
     ∙ List·getD-append (scaled (π .matrix)) (replicate 40 0) 0 (4 * i + v) (omega (arith, length-scaled (π .matrix)))
     ∙ scaled-entry (π .matrix) i v hi hv
+
+-- the table of a function at k numbers from i on
+abbrev pub tabulated : {A : Type 0} → ℕ → ℕ → (ℕ → A) → List A
+tabulated zero i f = []
+tabulated (suc k) i f = f i ∷ tabulated k (suc i) f
+
+tabulated-at : {A : Type 0} (k i : ℕ) (f : ℕ → A) (d : A) (n : ℕ) → n < k → getD (tabulated k i f) n d ≡ f (i + n)
+tabulated-at zero i f d n h = absurd (omega arith)
+tabulated-at (suc k) i f d zero h = ap f (sym (add-zero i))
+tabulated-at (suc k) i f d (suc n) h =
+    let e : suc i + n ≡ i + suc n = omega arith in
+    tabulated-at k (suc i) f d n (omega arith) ∙ ap f e
+
+pub table-at : {A : Type 0} (k : ℕ) (f : ℕ → A) (d : A) (n : ℕ) → n < k → getD (tabulated k 0 f) n d ≡ f n
+table-at k f d n h = tabulated-at k 0 f d n h ∙ ap f (zero-add n)

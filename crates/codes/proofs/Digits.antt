@@ -5,11 +5,12 @@ use mathlib.Core.Path.{_≡_, refl, sym, ap, ap₂, _∙_, subst}
 use mathlib.Core.Bool.{Bool, Bool-discrete}
 use mathlib.Core.List.{List, [], _∷_}
 use Prim.Native.Nat.{ℕ, zero, suc, _+_, _*_, _/_, _%_, _^_, _<_}
-use native.Mathlib.Nat.{mod-lt, mod-eq-of-lt, mod-one, mul-pos, pow-succ', pow-zero}
+use native.Mathlib.Nat.{mod-lt, mod-eq-of-lt, mod-one, mul-pos, one-mul, pow-succ', pow-zero}
 use native.Mathlib.Omega.{arith}
 use lib.Arith.{digits-lt, digits-div, digits-mod, mod-mul}
 use lib.Dec.{eqb, ltb, ltb→lt, lit<}
 use lib.ListN.{length}
+use lib.Pow.{shl-exact}
 use Rattle.symbols.specs.Symbol.{bit, symbolNumber}
 use Rattle.symbols.specs.Column.{one, columnNumber}
 use Rattle.symbols.proofs.Every.{bits as all-bits, law, law-below, number-discrete}
@@ -35,11 +36,12 @@ bits-fit =
       small = λ x. ltb→lt (one x) 2 (all-bits .at (λ x. ltb (one x) 2) tt x);
       back = λ x. law all-bits Bool-discrete (λ x. bit 0 (one x)) (λ x. x) tt x;
       there = λ n. bit-number n;
-      modulo = λ n. ap (λ (x : ℕ). eqb x 1) (half-mod n)
+      modulo = λ n. ap (λ (x : ℕ). eqb x 1) (half-mod n);
     }
   where
     half-mod : (n : ℕ) → n % 2 / 1 % 2 ≡ n / 1 % 2
     half-mod n = omega arith
+
     bit-number : (n : ℕ) → one (bit 0 n) ≡ n % 2
     bit-number n = law-below 2 number-discrete (λ k. one (eqb k 1)) (λ k. k) tt (n / 1 % 2) (mod-lt (n / 1) (lit< tt)) ∙ omega arith
 
@@ -50,7 +52,7 @@ symbols-fit =
       small = symbol-number-lt;
       back = symbol-of-number;
       there = λ n. ap symbolNumber (sym (symbol-mod n)) ∙ number-of-symbol (n % 4) (mod-lt n (lit< tt));
-      modulo = symbol-mod
+      modulo = symbol-mod;
     }
 
 pub columns-fit : Fit columns
@@ -60,7 +62,7 @@ columns-fit =
       small = column-number-lt;
       back = column-of-number;
       there = λ n. ap columnNumber (sym (column-mod n)) ∙ number-of-column (n % 16) (mod-lt n (lit< tt));
-      modulo = column-mod
+      modulo = column-mod;
     }
 
 pub length-digits : {A : Type 0} (d : Digit A) (k n : ℕ) → length (digits d k n) ≡ k
@@ -115,3 +117,7 @@ module _ {A : Type 0} (d : Digit A) (fit : Fit d) where
 
   pub number-again : (k n : ℕ) → n < d .base ^ k → numberOf d (digits d k n) ≡ n
   number-again k n h = number-digits k n ∙ mod-eq-of-lt h
+
+-- a power of two below 2 ^ 64, as a shift makes it
+pub power-fits : (k : ℕ) → k < 64 → (1 * 2 ^ k) % 2 ^ 64 ≡ 2 ^ k
+power-fits k h = shl-exact 1 k 64 (lit< tt) (omega arith) ∙ one-mul (2 ^ k)

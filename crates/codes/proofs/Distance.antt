@@ -112,7 +112,7 @@ pub apart-by-length : (π : Projection) → T (settles (π .matrix) 3 [] true) �
 apart-by-length π f h =
     record { independent = f; odd = λ cs e k. omega (arith, odd-ones cs (k .parities)) }
 
-wanted-even : (r : TopRule) → wanted r false ≡ false
+pub wanted-even : (r : TopRule) → wanted r false ≡ false
 wanted-even ruleO = refl
 wanted-even ruleE = refl
 

@@ -29,7 +29,7 @@ with-parity p [] ts = refl
 with-parity p (v ∷ vs) [] = refl
 with-parity p (v ∷ vs) (t ∷ ts) = parity-cons p (columnWith p v t) (columnsWith p vs ts) (parity-with p v t) (with-parity p vs ts)
 
-with-values : (p : Bool) (vs : List Symbol) (ts : List Bool) → length vs ≡ length ts → map value (columnsWith p vs ts) ≡ vs
+pub with-values : (p : Bool) (vs : List Symbol) (ts : List Bool) → length vs ≡ length ts → map value (columnsWith p vs ts) ≡ vs
 with-values p [] ts e = refl
 with-values p (v ∷ vs) [] e = absurd (omega arith)
 with-values p (v ∷ vs) (t ∷ ts) e = ap₂ _∷_ (value-with p v t) (with-values p vs ts (omega arith))
@@ -61,7 +61,7 @@ xor-false a = law bits Bool-discrete (λ a. a ⊻ false) (λ a. a) tt a
 xor-twice : (a b : Bool) → a ⊻ (a ⊻ b) ≡ b
 xor-twice a b = law (bits ⊗ bits) Bool-discrete (λ (a, b). a ⊻ (a ⊻ b)) (λ (a, b). b) tt (a, b)
 
-length-tops : (t : Bool) (bs : List Bool) → length (allTops t bs) ≡ suc (length bs)
+pub length-tops : (t : Bool) (bs : List Bool) → length (allTops t bs) ≡ suc (length bs)
 length-tops t [] = refl
 length-tops t (b ∷ bs) = ap suc (length-tops (b ⊻ t) bs)
 
@@ -119,7 +119,7 @@ module _ (π : Projection) (sys : Systematic π) where
         record {
           zero = ap (λ (vs : List Symbol). isZeroV (syndrome (π .rows) (π .matrix) vs)) values-of ∙ values-zero π sys (m .values);
           parities = with-parity (m .parity) (allValues π (m .values)) tops;
-          tops = top-row (codewordOf π m) ∙ ap xors tops-of ∙ xor-tops (wanted (π .rule) (m .parity)) (m .tops)
+          tops = top-row (codewordOf π m) ∙ ap xors tops-of ∙ xor-tops (wanted (π .rule) (m .parity)) (m .tops);
         }
 
     -- and they say the message again
@@ -130,20 +130,20 @@ module _ (π : Projection) (sys : Systematic π) where
         let et = ap butLast tops-of ∙ but-last-tops (wanted (π .rule) (m .parity)) (m .tops) in
         λ i. record { parity = ep i; values = ev i; tops = et i }
 
-  -- a codeword is that of its message
-  module _ (p : Bool) (cs : List Column) (long : length cs ≡ size π) (is : Codeword π p cs) where
-    pub sized : Sized π (messageIn π cs)
-    sized =
-        record {
-          values = length-chosen (π .free) (map value cs) (length-map value cs ∙ long ∙ sym (sys .marks));
-          tops = length-but-last (map top cs) ∙ omega (arith, length-map top cs)
-        }
+  -- what a word says of its message has the right sizes
+  pub sized : (cs : List Column) → length cs ≡ size π → Sized π (messageIn π cs)
+  sized cs long =
+      record {
+        values = length-chosen (π .free) (map value cs) (length-map value cs ∙ long ∙ sym (sys .marks));
+        tops = length-but-last (map top cs) ∙ omega (arith, length-map top cs);
+      }
 
-    pub codeword-of-message : codewordOf π (messageIn π cs) ≡ cs
-    codeword-of-message =
-        let ep = first-parity p cs (omega (arith, sys .some)) (is .parities) in
-        ap (λ (q : Bool). columnsWith q (allValues π (messageIn π cs .values)) (allTops (wanted (π .rule) q) (messageIn π cs .tops))) ep
-        ∙ ap₂ (columnsWith p)
-        (values-chosen π sys (map value cs) (length-map value cs ∙ long) (is .zero))
-        (tops-but-last (wanted (π .rule) p) (map top cs) (omega (arith, length-map top cs, sys .some)) (sym (is .tops) ∙ top-row cs))
-        ∙ columns-with p cs (is .parities)
+  -- a codeword is that of its message
+  pub codeword-of-message : (p : Bool) (cs : List Column) → length cs ≡ size π → Codeword π p cs → codewordOf π (messageIn π cs) ≡ cs
+  codeword-of-message p cs long is =
+      let ep = first-parity p cs (omega (arith, sys .some)) (is .parities) in
+      ap (λ (q : Bool). columnsWith q (allValues π (messageIn π cs .values)) (allTops (wanted (π .rule) q) (messageIn π cs .tops))) ep
+      ∙ ap₂ (columnsWith p)
+      (values-chosen π sys (map value cs) (length-map value cs ∙ long) (is .zero))
+      (tops-but-last (wanted (π .rule) p) (map top cs) (omega (arith, length-map top cs, sys .some)) (sym (is .tops) ∙ top-row cs))
+      ∙ columns-with p cs (is .parities)

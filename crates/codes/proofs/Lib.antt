@@ -9,3 +9,8 @@ pub mod Distance
 pub mod Placing
 pub mod Encoding
 pub mod Messages
+pub mod Drafts
+pub mod Horner
+pub mod Readings
+pub mod Strict
+pub mod Answers

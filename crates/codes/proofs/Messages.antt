@@ -5,18 +5,18 @@
 use mathlib.Core.Path.{_≡_, refl, sym, ap, ap₂, _∙_, subst}
 use mathlib.Core.Bool.{Bool, true, false}
 use mathlib.Core.List.{List, [], _∷_, map}
-use Prim.Native.Nat.{ℕ, suc, _+_, _*_, _/_, _%_, _^_, _<_}
-use native.Mathlib.Nat.{mod-lt, mod-eq-of-lt, div-add-mod', div-div-eq-div-mul, mul-comm}
+use Prim.Native.Nat.{ℕ, suc, _+_, _*_, _/_, _%_, _^_, _≤_, _<_}
+use native.Mathlib.Nat.{mod-lt, mod-eq-of-lt, div-add-mod', div-div-eq-div-mul, mul-comm, lt-of-lt-of-le}
 use native.Mathlib.Omega.{arith}
 use lib.Arith.{digits-lt, digits-div, digits-mod, mod-mul}
 use lib.Dec.{eqb, lit<}
 use lib.ListN.{length}
-use lib.Pow.{pow-add, shr-lt, pow-pos}
+use lib.Pow.{pow-add, pow-mono, shr-lt}
 use Rattle.symbols.specs.Symbol.{Symbol, bit}
 use Rattle.symbols.specs.Column.{Column, one}
 use Rattle.codes.specs.Digits.{bits, symbols, columns, digits, numberOf}
 use Rattle.codes.specs.Projection.{Projection, count, size, width, topBits, messageBits}
-use Rattle.codes.specs.Word.{word, isCodeword}
+use Rattle.codes.specs.Word.{word, wordNumber, isCodeword}
 use Rattle.codes.specs.Message.{Message, messageOf, messageNumber, messageIn, codewordOf, encode, decode}
 use Rattle.codes.proofs.Digits.{bits-fit, symbols-fit, columns-fit, length-digits, place-pos, number-digits, number-lt, digits-remainder, digits-again, number-again}
 use Rattle.codes.proofs.Sums.{pow-mul}
@@ -42,8 +42,8 @@ module _ (π : Projection) where
   high-bit : (n : ℕ) → bit (2 * count (π .free) + topBits π) n ≡ bit 0 (n / 2 ^ topBits π / 4 ^ count (π .free))
   high-bit n =
       let e : n / 2 ^ (2 * F + K) ≡ n / 2 ^ K / 4 ^ F / 1 =
-          ap (λ (x : ℕ). n / x) (pow-add 2 (2 * F) K ∙ mul-comm (2 ^ (2 * F)) (2 ^ K)) ∙ sym (div-div-eq-div-mul n (2 ^ K) (2 ^ (2 * F)))
-          ∙ ap (λ (x : ℕ). n / 2 ^ K / x) (sym fours) ∙ omega arith in
+      ap (λ (x : ℕ). n / x) (pow-add 2 (2 * F) K ∙ mul-comm (2 ^ (2 * F)) (2 ^ K)) ∙ sym (div-div-eq-div-mul n (2 ^ K) (2 ^ (2 * F)))
+      ∙ ap (λ (x : ℕ). n / 2 ^ K / x) (sym fours) ∙ omega arith in
       ap (λ (x : ℕ). eqb (x % 2) 1) e
 
   -- p and the values together
@@ -56,8 +56,8 @@ module _ (π : Projection) where
       let below : q < 2 * 4 ^ F = subst (λ (x : ℕ). q < x) twice-fours (shr-lt (1 + 2 * F) K h) in
       let p : one (bit (2 * F + K) n) ≡ q / 4 ^ F % 2 = ap one (high-bit n) ∙ bits-fit .there (q / 4 ^ F) in
       let high : one (bit (2 * F + K) n) * 4 ^ F + numberOf symbols (digits symbols F q) ≡ q =
-          ap₂ (λ (x y : ℕ). x * 4 ^ F + y) p (number-digits symbols symbols-fit F q)
-          ∙ sym (mod-mul q (lit< tt) (place-pos symbols symbols-fit F)) ∙ mod-eq-of-lt below in
+      ap₂ (λ (x y : ℕ). x * 4 ^ F + y) p (number-digits symbols symbols-fit F q)
+      ∙ sym (mod-mul q (lit< tt) (place-pos symbols symbols-fit F)) ∙ mod-eq-of-lt below in
       ap₂ (λ (x y : ℕ). x * 2 ^ K + y) high (number-digits bits bits-fit K n) ∙ div-add-mod' n (2 ^ K)
 
   module _ (m : Message) (s : Sized π m) where
@@ -79,19 +79,25 @@ module _ (π : Projection) where
     number-message =
         let high : messageNumber π m / 2 ^ K ≡ A = digits-div A low in
         let ep : bit (2 * F + K) (messageNumber π m) ≡ m .parity =
-            high-bit (messageNumber π m) ∙ ap (λ (x : ℕ). bit 0 (x / 4 ^ F)) high
-            ∙ ap (bit 0) (digits-div (one (m .parity)) middle) ∙ bits-fit .back (m .parity) in
+        high-bit (messageNumber π m) ∙ ap (λ (x : ℕ). bit 0 (x / 4 ^ F)) high
+        ∙ ap (bit 0) (digits-div (one (m .parity)) middle) ∙ bits-fit .back (m .parity) in
         let ev : digits symbols F (messageNumber π m / 2 ^ K) ≡ m .values =
-            ap (digits symbols F) high ∙ sym (digits-remainder symbols symbols-fit F A)
-            ∙ ap (digits symbols F) (digits-mod (one (m .parity)) middle) ∙ digits-again symbols symbols-fit F (m .values) (s .values) in
+        ap (digits symbols F) high ∙ sym (digits-remainder symbols symbols-fit F A)
+        ∙ ap (digits symbols F) (digits-mod (one (m .parity)) middle) ∙ digits-again symbols symbols-fit F (m .values) (s .values) in
         let et : digits bits K (messageNumber π m) ≡ m .tops =
-            sym (digits-remainder bits bits-fit K (messageNumber π m))
-            ∙ ap (digits bits K) (digits-mod A low) ∙ digits-again bits bits-fit K (m .tops) (s .tops) in
+        sym (digits-remainder bits bits-fit K (messageNumber π m))
+        ∙ ap (digits bits K) (digits-mod A low) ∙ digits-again bits bits-fit K (m .tops) (s .tops) in
         λ i. record { parity = ep i; values = ev i; tops = et i }
 
   -- words have the code's width
   sixteens : 16 ^ size π ≡ 2 ^ width π
   sixteens = pow-mul 2 4 (size π)
+
+-- ten columns make a word of at most 40 bits
+pub word-below : (cs : List Column) → length cs ≤ 10 → wordNumber cs < 2 ^ 40
+word-below cs h =
+    lt-of-lt-of-le (number-lt columns columns-fit cs)
+    (subst (λ (x : ℕ). x ≤ 2 ^ 40) (sym (pow-mul 2 4 (length cs))) (pow-mono {i = 4 * length cs} {j = 40} (omega arith)))
 
 module _ (π : Projection) (sys : Systematic π) where
   -- the columns of a message's codeword
@@ -124,7 +130,7 @@ module _ (π : Projection) (sys : Systematic π) where
     parts = parity-of π cs c
 
     fit : Sized π (messageIn π (word π x))
-    fit = sized π sys (parts .0) cs (length-digits columns (size π) x) (parts .1)
+    fit = sized π sys cs (length-digits columns (size π) x)
 
     pub decode-below : decode π x < 2 ^ messageBits π
     unfolding decode

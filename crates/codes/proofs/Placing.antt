@@ -12,7 +12,7 @@ use lib.ListN.{length}
 use Rattle.symbols.specs.Symbol.{Symbol, s0, Symbol-discrete, isZero, add}
 use Rattle.symbols.proofs.Every.{symbols, passes, passed, and-left, and-right}
 use Rattle.symbols.proofs.Symbols.{add-comm, add-zero, add-self}
-use Rattle.codes.specs.Vector.{addV, isZeroV}
+use Rattle.codes.specs.Vector.{zeros, addV, isZeroV}
 use Rattle.codes.specs.Projection.{Projection, count, size}
 use Rattle.codes.specs.Word.{syndrome}
 use Rattle.codes.specs.Message.{place, chosen, allValues}
@@ -54,6 +54,13 @@ place-split (true ∷ l) [] ds = ap (λ (x : List Symbol). s0 ∷ x) (place-spli
 place-split (true ∷ l) (f ∷ fs) ds = ap₂ _∷_ (add-zero f) (place-split l fs ds)
 place-split (false ∷ l) fs [] = ap (λ (x : List Symbol). s0 ∷ x) (place-split l fs [])
 place-split (false ∷ l) fs (d ∷ ds) = ap₂ _∷_ (add-comm s0 d ∙ add-zero d) (place-split l fs ds)
+
+pub place-zeros : (l : List Bool) (fs : List Symbol) (k : ℕ) → place l fs (zeros k) ≡ place l fs []
+place-zeros [] fs k = refl
+place-zeros (true ∷ l) [] k = ap (λ (x : List Symbol). s0 ∷ x) (place-zeros l [] k)
+place-zeros (true ∷ l) (f ∷ fs) k = ap (λ (x : List Symbol). f ∷ x) (place-zeros l fs k)
+place-zeros (false ∷ l) fs zero = refl
+place-zeros (false ∷ l) fs (suc k) = ap (λ (x : List Symbol). s0 ∷ x) (place-zeros l fs k)
 
 sum-self : (x : List Symbol) → isZeroV (addV x x) ≡ true
 sum-self [] = refl

@@ -26,7 +26,7 @@ use Rattle.codes.proofs.Vectors.{addV-comm, shaped, length-scale}
 use Rattle.codes.proofs.Words.{length-map}
 use Rattle.codes.proofs.Sums.{digits-add}
 
-digits-zero : (r : ℕ) → digits symbols r 0 ≡ zeros r
+pub digits-zero : (r : ℕ) → digits symbols r 0 ≡ zeros r
 digits-zero zero = refl
 digits-zero (suc r) = ap₂ _∷_ (ap symbolOf (zero-div (4 ^ r))) (digits-zero r)
 
@@ -35,7 +35,7 @@ pub walked-none : (r : ℕ) → Walked r [] [] 0 false 0
 walked-none r = record { syndromes = digits-zero r; tops = refl; odd = refl }
 
 -- exclusive or, as the code has it
-xor-code : (a b : Bool) → not (Bool·beq a b) ≡ a ⊻ b
+pub xor-code : (a b : Bool) → not (Bool·beq a b) ≡ a ⊻ b
 xor-code a b = law (bits ⊗ bits) Bool-discrete (λ (a, b). not (Bool·beq a b)) (λ (a, b). a ⊻ b) tt (a, b)
 
 count-cons : (b : Bool) (l : List Bool) (n : ℕ) → n ≡ count l → n + one b ≡ count (b ∷ l)
@@ -53,7 +53,7 @@ walked-more r h H c cs s t n g eh eg w =
           ∙ ap₂ addV (w .syndromes) (ap (digits symbols r) eg ∙ digits-again symbols symbols-fit r (scale (value c) h) (length-scale (value c) h ∙ eh))
           ∙ addV-comm (syndrome r H (map value cs)) (scale (value c) h);
       tops = xor-code t (top c) ∙ ap (λ (b : Bool). b ⊻ top c) (w .tops) ∙ xor-comm (topRow cs) (top c);
-      odd = count-cons (parity c) (map parity cs) n (w .odd)
+      odd = count-cons (parity c) (map parity cs) n (w .odd);
     }
 
 shaped-at : (r : ℕ) (H : List (List Symbol)) (j : ℕ) → shaped r H ≡ true → j < length H → length (getD H j []) ≡ r

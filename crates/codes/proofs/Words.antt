@@ -111,5 +111,5 @@ codeword-sum π p q a b e s t =
     record {
       zero = ap isZeroV (syndrome-sum π a b e) ∙ zero-add (syndromeOf π a) (syndromeOf π b) (t .zero) ∙ s .zero;
       parities = parity-sum p q a b (s .parities) (t .parities);
-      tops = topRow-sum a b e ∙ ap₂ _⊻_ (s .tops) (t .tops) ∙ sym (wanted-sum (π .rule) p q)
+      tops = topRow-sum a b e ∙ ap₂ _⊻_ (s .tops) (t .tops) ∙ sym (wanted-sum (π .rule) p q);
     }

@@ -5,9 +5,9 @@ use mathlib.Core.List.{List, [], _∷_, map}
 use Prim.Native.Nat.{ℕ, _+_, _*_, _/_, _^_}
 use Rattle.symbols.specs.Symbol.{_⊻_, Symbol, s0, bit}
 use Rattle.symbols.specs.Column.{Column, value, parity, top, one, columnWith}
-use Rattle.codes.specs.Digits.{bits, symbols, columns, digits, numberOf}
+use Rattle.codes.specs.Digits.{bits, symbols, digits, numberOf}
 use Rattle.codes.specs.Projection.{Projection, wanted, count, topBits}
-use Rattle.codes.specs.Word.{syndrome, word}
+use Rattle.codes.specs.Word.{word, wordNumber, syndrome}
 
 -- 'A message has 19 or 22 bits, highest first: p; two bits for each free column's value in column order; the top bits of columns 1 to m−1'
 pub record Message : Type 0 where
@@ -20,7 +20,7 @@ messageOf π n =
     record {
       parity = bit (2 * count (π .free) + topBits π) n;
       values = digits symbols (count (π .free)) (n / 2 ^ topBits π);
-      tops = digits bits (topBits π) n
+      tops = digits bits (topBits π) n;
     }
 
 abbrev pub messageNumber : Projection → Message → ℕ
@@ -56,7 +56,7 @@ abbrev pub codewordOf : Projection → Message → List Column
 codewordOf π m = columnsWith (m .parity) (allValues π (m .values)) (allTops (wanted (π .rule) (m .parity)) (m .tops))
 
 unfoldable pub encode : Projection → ℕ → ℕ
-encode π n = numberOf columns (codewordOf π (messageOf π n))
+encode π n = wordNumber (codewordOf π (messageOf π n))
 
 -- the other way: what a codeword's columns say of its message
 abbrev pub chosen : List Bool → List Symbol → List Symbol

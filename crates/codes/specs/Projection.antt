@@ -65,7 +65,7 @@ nine r =
           ∷ (0 ∷ 0 ∷ 0 ∷ 1 ∷ 1 ∷ 3 ∷ 0 ∷ 1 ∷ 3 ∷ [])
           ∷ []);
       rule = r;
-      free = false ∷ false ∷ false ∷ false ∷ true ∷ true ∷ true ∷ true ∷ true ∷ []
+      free = false ∷ false ∷ false ∷ false ∷ true ∷ true ∷ true ∷ true ∷ true ∷ [];
     }
 
 -- 'Ten columns (source document 003)'; 'or 1, 2, 3, 5, 6, 7'
@@ -81,5 +81,5 @@ ten r =
           ∷ (2 ∷ 3 ∷ 1 ∷ 0 ∷ 2 ∷ 3 ∷ 1 ∷ 0 ∷ 0 ∷ 1 ∷ [])
           ∷ []);
       rule = r;
-      free = true ∷ true ∷ true ∷ false ∷ true ∷ true ∷ true ∷ false ∷ false ∷ false ∷ []
+      free = true ∷ true ∷ true ∷ false ∷ true ∷ true ∷ true ∷ false ∷ false ∷ false ∷ [];
     }

@@ -5,13 +5,17 @@ use mathlib.Core.List.{List, [], _∷_, map}
 use Prim.Native.Nat.{ℕ, _+_}
 use Rattle.symbols.specs.Symbol.{_⊻_, Symbol}
 use Rattle.symbols.specs.Column.{Column, value, parity, top, weight, _⊕_}
-use Rattle.codes.specs.Digits.{digits, columns}
+use Rattle.codes.specs.Digits.{columns, digits, numberOf}
 use Rattle.codes.specs.Vector.{zeros, addV, scale, isZeroV}
 use Rattle.codes.specs.Projection.{Projection, wanted, size}
 
 -- the columns of a number as a word of a code: 'one digit a column, column 1 first'
 abbrev pub word : Projection → ℕ → List Column
 word π n = digits columns (size π) n
+
+-- the number of a word's columns
+abbrev pub wordNumber : List Column → ℕ
+wordNumber cs = numberOf columns cs
 
 -- 'The syndrome is H times the values, with no conjugate'
 abbrev pub syndrome : ℕ → List (List Symbol) → List Symbol → List Symbol

@@ -1,8 +1,10 @@
 // The four codes. Here, and nowhere else, stand the numbers that tell one from another.
 use crate::answer::Refusal;
 ghost use mathlib.Core.Path.{_≡_};
-ghost use Prim.Native.Nat.{_^_};
-ghost use Rattle.codes.specs.Projection.{size, width, messageBits};
+ghost use mathlib.Core.Bool.{false};
+ghost use Prim.Native.Nat.{suc, _^_};
+ghost use lib.ListN.{getD, drop};
+ghost use Rattle.codes.specs.Projection.{wanted, count, size, width, messageBits};
 ghost use Rattle.codes.specs.Codes.{projection, stepLimit, codeFound};
 
 // A code of 36 or 40 bits under the top rule O or E.
@@ -21,13 +23,50 @@ pub enum CodeFound {
 
 impl Code {
     const COLUMNS_36: usize = 9;
+
     const COLUMNS_40: usize = 10;
+
     const WIDTH_36: u64 = 36;
+
     const WIDTH_40: u64 = 40;
+
     const MESSAGE_BITS_36: u64 = 19;
+
     const MESSAGE_BITS_40: u64 = 22;
+
     const STEP_LIMIT_36: u64 = 128;
+
     const STEP_LIMIT_40: u64 = 1024;
+
+    const FREE_36: [bool; 10] = [
+        false,
+        false,
+        false,
+        false,
+        true,
+        true,
+        true,
+        true,
+        true,
+        false,
+    ];
+
+    const FREE_40: [bool; 10] = [
+        true,
+        true,
+        true,
+        false,
+        true,
+        true,
+        true,
+        false,
+        false,
+        false,
+    ];
+
+    const BEHIND_36: [u64; 10] = [5, 5, 5, 5, 4, 3, 2, 1, 0, 0];
+
+    const BEHIND_40: [u64; 10] = [5, 4, 3, 3, 2, 1, 0, 0, 0, 0];
 
     // The code with a number, 1 to 4, or the refusal of any other number.
     pub fn from_number(number: u64) -> CodeFound
@@ -72,6 +111,20 @@ impl Code {
         }
     }
 
+    // The first number that is no word: 2 to the power of the width.
+    pub fn word_limit(self) -> u64
+        ensures { λ r. ⌜ r ≡ 2 ^ width (projection self) ⌝ }
+    {
+        1u64 << self.width()
+    }
+
+    // The first number that is no message.
+    pub fn message_limit(self) -> u64
+        ensures { λ r. ⌜ r ≡ 2 ^ messageBits (projection self) ⌝ }
+    {
+        1u64 << self.message_bits()
+    }
+
     // The number of steps: a message is a step times 4096 plus a reading.
     pub fn step_limit(self) -> u64
         ensures { λ r. ⌜ r ≡ stepLimit (projection self) ⌝ }
@@ -79,6 +132,42 @@ impl Code {
         match self {
             Code::O36 | Code::E36 => Code::STEP_LIMIT_36,
             Code::O40 | Code::E40 => Code::STEP_LIMIT_40,
+        }
+    }
+
+    // Whether a column, counted from 0, is free.
+    pub fn is_free(self, column: usize) -> bool
+        ensures { λ r. ⌜ r ≡ getD (projection self .free) column false ⌝ }
+    {
+        if 10 <= column {
+            return false;
+        }
+        match self {
+            Code::O36 | Code::E36 => Code::FREE_36[column],
+            Code::O40 | Code::E40 => Code::FREE_40[column],
+        }
+    }
+
+    // The number of free columns behind a column, counted from 0.
+    pub fn free_behind(self, column: usize) -> u64
+        ensures { λ r. ⌜ r ≡ count (drop (suc column) (projection self .free)) ⌝ }
+    {
+        if 10 <= column {
+            return 0;
+        }
+        match self {
+            Code::O36 | Code::E36 => Code::BEHIND_36[column],
+            Code::O40 | Code::E40 => Code::BEHIND_40[column],
+        }
+    }
+
+    // The top row's parity where the columns have this parity.
+    pub fn top_parity(self, parity: bool) -> bool
+        ensures { λ r. ⌜ r ≡ wanted (projection self .rule) parity ⌝ }
+    {
+        match self {
+            Code::O36 | Code::O40 => parity,
+            Code::E36 | Code::E40 => false,
         }
     }
 }

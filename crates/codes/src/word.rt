@@ -9,8 +9,95 @@ ghost use Rattle.codes.specs.Digits.{symbols, numberOf};
 ghost use Rattle.codes.specs.Vector.{scale};
 ghost use Rattle.codes.specs.Projection.{size};
 ghost use Rattle.codes.specs.Codes.{projection};
-ghost use Rattle.codes.specs.Word.{word};
+ghost use Rattle.codes.specs.Word.{word, wordNumber};
 ghost use Rattle.codes.specs.Walk.{held, scaledColumns, Walked};
+
+// The columns of each check matrix times 0, 1, 2 and 3, packed with the first row highest.
+const SCALED_36: [u8; 40] = [
+    0,
+    64,
+    128,
+    192,
+    0,
+    16,
+    32,
+    48,
+    0,
+    4,
+    8,
+    12,
+    0,
+    1,
+    2,
+    3,
+    0,
+    89,
+    174,
+    247,
+    0,
+    79,
+    133,
+    202,
+    0,
+    228,
+    120,
+    156,
+    0,
+    57,
+    30,
+    39,
+    0,
+    87,
+    169,
+    254,
+    0,
+    0,
+    0,
+    0,
+];
+
+const SCALED_40: [u8; 40] = [
+    0,
+    78,
+    135,
+    201,
+    0,
+    75,
+    141,
+    198,
+    0,
+    69,
+    138,
+    207,
+    0,
+    64,
+    128,
+    192,
+    0,
+    30,
+    39,
+    57,
+    0,
+    27,
+    45,
+    54,
+    0,
+    21,
+    42,
+    63,
+    0,
+    16,
+    32,
+    48,
+    0,
+    4,
+    8,
+    12,
+    0,
+    1,
+    2,
+    3,
+];
 
 // What one walk over the columns collects: the syndrome, packed with its first row highest, the top row's parity, and
 // the number of odd columns.
@@ -35,12 +122,35 @@ pub fn unpack(code: Code, packed: u64) -> [u8; 10]
     columns
 }
 
+// The table of a code's scaled columns.
+pub fn scaled_columns(code: Code) -> [u8; 40]
+    ensures { λ r. ⌜ r ≡ scaledColumns (projection code) ⌝ }
+{
+    match code {
+        Code::O36 | Code::E36 => SCALED_36,
+        Code::O40 | Code::E40 => SCALED_40,
+    }
+}
+
 // A column of the check matrix times a symbol, packed, out of the table of all of them.
 fn scaled_at(code: Code, scaled: &[u8; 40], column: usize, symbol: u8) -> u8
     requires { ⌜ (now scaled ≡ scaledColumns (projection code)) × (column < size (projection code)) × (symbol < 4) ⌝ }
     ensures { λ r. ⌜ r ≡ numberOf symbols (scale (symbolOf symbol) (getD (projection code .matrix) column [])) ⌝ }
 {
     scaled[4 * column + (symbol as usize)]
+}
+
+// The number of a word's columns.
+pub fn pack(code: Code, columns: [u8; 10]) -> u64
+    ensures { λ r. ⌜ r ≡ wordNumber (held (projection code) columns) ⌝ }
+{
+    let mut number: u64 = 0;
+    let mut i: usize = 0;
+    while i < code.columns() {
+        number = number * 16 + ((columns[i] % 16) as u64);
+        i += 1;
+    }
+    number
 }
 
 // One walk over the columns of a word. `scaled` has the columns of the check matrix times each symbol.

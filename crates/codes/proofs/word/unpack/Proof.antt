@@ -30,10 +30,13 @@ columns-requires c κs = search needs
 loop-holds : tie.Need-loop-holds Inv-loop μ-loop
 loop-holds c =
     let m = c .columns .result in
-    let none : m - m ≡ 0 = omega arith in
-    (omega arith, omega (arith, c .columns .ensures, size-le (c .before .args .code)), refl,
-    sym (ap (λ (k : ℕ). c .before .args .packed / 16 ^ k) none ∙ div-one (c .before .args .packed)),
-    ap (λ (k : ℕ). map columnOf (take k (drop m (replicate 10 0)))) none ∙ sym (ap (λ (k : ℕ). digits columns k (c .before .args .packed)) none))
+    let none : m - m ≡ 0 = omega arith in (
+      omega arith,
+      omega (arith, c .columns .ensures, size-le (c .before .args .code)),
+      refl,
+      sym (ap (λ (k : ℕ). c .before .args .packed / 16 ^ k) none ∙ div-one (c .before .args .packed)),
+      ap (λ (k : ℕ). map columnOf (take k (drop m (replicate 10 0)))) none ∙ sym (ap (λ (k : ℕ). digits columns k (c .before .args .packed)) none),
+    )
 
 sub-i : tie.Need-sub-i Inv-loop μ-loop
 sub-i c = omega arith
@@ -54,12 +57,15 @@ loop-again c =
     let m = c .before .before .columns .result in
     let k = m - l .i in
     let more : m - (l .i - 1) ≡ suc k = omega arith in
-    let next : suc (l .i - 1) ≡ l .i = omega arith in
-    (omega arith, omega arith, simp length-set (l .inv .2),
-    ap (λ (x : ℕ). x / 16) (l .inv .3) ∙ next-digit k n ∙ ap (λ (j : ℕ). n / 16 ^ j) (sym more),
-    ap₂ (λ (j v : ℕ). map columnOf (take j (drop (l .i - 1) (set (l .columns) (l .i - 1) (v % 16))))) more (l .inv .3)
-    ∙ unpack-step (l .columns) (l .i - 1) k n (omega arith) (ap (λ (j : ℕ). map columnOf (take k (drop j (l .columns)))) next ∙ l .inv .4)
-    ∙ ap (λ (j : ℕ). digits columns j n) (sym more))
+    let next : suc (l .i - 1) ≡ l .i = omega arith in (
+      omega arith,
+      omega arith,
+      simp length-set (l .inv .2),
+      ap (λ (x : ℕ). x / 16) (l .inv .3) ∙ next-digit k n ∙ ap (λ (j : ℕ). n / 16 ^ j) (sym more),
+      ap₂ (λ (j v : ℕ). map columnOf (take j (drop (l .i - 1) (set (l .columns) (l .i - 1) (v % 16))))) more (l .inv .3)
+          ∙ unpack-step (l .columns) (l .i - 1) k n (omega arith) (ap (λ (j : ℕ). map columnOf (take k (drop j (l .columns)))) next ∙ l .inv .4)
+          ∙ ap (λ (j : ℕ). digits columns j n) (sym more),
+    )
 
 returns : tie.Need-returns Inv-loop μ-loop
 returns c =

@@ -40,10 +40,11 @@ columns-requires c κs = search needs
 loop-holds : tie.Need-loop-holds Inv-loop μ-loop
 loop-holds c =
     let code = c .before .args .code in
-    let full = c .columns .ensures in
-    (omega arith,
-    subst (From code (c .before .args .t3) 0 false 0) (sym full) (walk-start (projection code) (systematic code .shape) (c .before .args .t3) (omega (arith, size-le code))),
-    omega (arith, size-le code))
+    let full = c .columns .ensures in (
+      omega arith,
+      subst (From code (c .before .args .t3) 0 false 0) (sym full) (walk-start (projection code) (systematic code .shape) (c .before .args .t3) (omega (arith, size-le code))),
+      omega (arith, size-le code),
+    )
 
 sub-i : tie.Need-sub-i Inv-loop μ-loop
 sub-i c = omega arith
@@ -85,15 +86,16 @@ loop-again c =
     let column = columnOf (getD a (l .i - 1) 0) in
     let next : suc (l .i - 1) ≡ l .i = omega arith in
     let symbol : symbolOf (c .before .before .before .before .value .result) ≡ value column =
-        ap symbolOf (c .before .before .before .before .value .ensures) ∙ symbol-of-number (value column) in
+    ap symbolOf (c .before .before .before .before .value .ensures) ∙ symbol-of-number (value column) in
     let here = walk-step (projection code) (systematic code .shape) a (omega (arith, size-le code)) (l .i - 1) (omega arith) (l .syndrome) (l .top) (l .odd)
-        (c .before .before .before .scaled-at .result)
-        (c .before .before .before .scaled-at .ensures ∙ ap (λ (v : Symbol). numberOf symbols (scale v (getD (projection code .matrix) (l .i - 1) []))) symbol)
-        (subst (From code a (l .syndrome) (l .top) (l .odd)) (sym next) (l .inv .1)) in
-    (omega arith,
-    subst₂ (λ (t : Bool) (n : ℕ). From code a (bitXor (l .syndrome) (c .before .before .before .scaled-at .result)) (not (Bool·beq (l .top) t)) (l .odd + n) (l .i - 1))
-    (sym (c .before .before .top .ensures)) (sym (c .one .ensures ∙ ap one (c .before .parity .ensures))) here,
-    omega (arith, c .one .ensures, one-le (c .before .parity .result)))
+    (c .before .before .before .scaled-at .result)
+    (c .before .before .before .scaled-at .ensures ∙ ap (λ (v : Symbol). numberOf symbols (scale v (getD (projection code .matrix) (l .i - 1) []))) symbol)
+    (subst (From code a (l .syndrome) (l .top) (l .odd)) (sym next) (l .inv .1)) in (
+      omega arith,
+      subst₂ (λ (t : Bool) (n : ℕ). From code a (bitXor (l .syndrome) (c .before .before .before .scaled-at .result)) (not (Bool·beq (l .top) t)) (l .odd + n) (l .i - 1))
+          (sym (c .before .before .top .ensures)) (sym (c .one .ensures ∙ ap one (c .before .parity .ensures))) here,
+      omega (arith, c .one .ensures, one-le (c .before .parity .result)),
+    )
 
 returns : tie.Need-returns Inv-loop μ-loop
 returns c =

@@ -1,0 +1,69 @@
+-- `codes::Code::decode` meets its contract: the rows of its refusals in order, and the message that the columns say.
+-- Assumes nothing.
+use mathlib.Core.Path.{_≡_, sym, ap, _∙_, subst}
+use mathlib.Core.Bool.{Bool, true, false, not}
+use mathlib.Core.List.{List, [], _∷_}
+use Prim.Native.Nat.{ℕ, _^_, _≤_, _<_}
+use borrow.Author.Needs.{needs}
+use borrow.Author.Tests.{le-leb, lt-leb}
+use Rattle.symbols.specs.Column.{Column}
+use Rattle.codes.specs.Answer.{Answer, accepted, unless}
+use Rattle.codes.specs.Projection.{width}
+use Rattle.codes.specs.Word.{word, isCodeword}
+use Rattle.codes.specs.Message.{messageIn, messageNumber, decode}
+use Rattle.codes.specs.Codes.{projection, notACodeword}
+use Rattle.codes.proofs.Answers.{row-met, row-passed}
+use Rattle.codes.proofs.code.Code.decode.Statement.{statement}
+use Rattle.codes.proofs.code.Code.decode.Tie as tie
+
+word-limit-requires : tie.Need-word-limit-requires
+word-limit-requires c κs = search needs
+
+returns : tie.Need-returns
+returns c =
+    let a = c .before .before .args in
+    let π = projection (a .self) in
+    sym (row-met 3 (notACodeword π (a .word) ∷ []) (accepted (decode π (a .word) ∷ []))
+    (le-leb (2 ^ width π) (a .word) (subst (λ (n : ℕ). n ≤ a .word) (c .before .word-limit .ensures) (c .if1 .taken))))
+
+unpack-requires : tie.Need-unpack-requires
+unpack-requires c κs = search needs
+
+is-codeword-requires : tie.Need-is-codeword-requires
+is-codeword-requires c κs = search needs
+
+message-in-requires : tie.Need-message-in-requires
+message-in-requires c κs = search needs
+
+returns-2 : tie.Need-returns-2
+unfolding decode
+returns-2 c =
+    let a = c .before .before .before .before .before .before .args in
+    let π = projection (a .self) in
+    let cs = c .before .before .before .unpack .ensures in
+    let within = lt-leb (2 ^ width π) (a .word) (subst (λ (n : ℕ). a .word < n) (c .before .before .before .before .before .word-limit .ensures) (c .before .before .before .before .if1 .left)) in
+    let is = sym (c .before .before .is-codeword .ensures ∙ ap (isCodeword π) cs) ∙ c .before .if2 .taken in
+    ap (λ (n : ℕ). accepted (n ∷ [])) (c .message-in .ensures ∙ ap (λ (x : List Column). messageNumber π (messageIn π x)) cs)
+    ∙ sym (row-passed 3 (notACodeword π (a .word) ∷ []) (accepted (decode π (a .word) ∷ [])) within
+    ∙ row-passed 4 [] (accepted (decode π (a .word) ∷ [])) (ap not is))
+
+returns-3 : tie.Need-returns-3
+returns-3 c =
+    let a = c .before .before .before .before .before .args in
+    let π = projection (a .self) in
+    let within = lt-leb (2 ^ width π) (a .word) (subst (λ (n : ℕ). a .word < n) (c .before .before .before .before .word-limit .ensures) (c .before .before .before .if1 .left)) in
+    let isnt = sym (c .before .is-codeword .ensures ∙ ap (isCodeword π) (c .before .before .unpack .ensures)) ∙ c .if2 .left in
+    sym (row-passed 3 (notACodeword π (a .word) ∷ []) (accepted (decode π (a .word) ∷ [])) within
+    ∙ row-met 4 [] (accepted (decode π (a .word) ∷ [])) (ap not isnt))
+
+pub decode-spec : {M : Type 1} → statement M
+decode-spec =
+    tie.close
+    (tie.spec
+    word-limit-requires
+    returns
+    unpack-requires
+    is-codeword-requires
+    message-in-requires
+    returns-2
+    returns-3)

@@ -1,0 +1,45 @@
+-- `codes::Code::encode` meets its contract: the one row of its refusals, and the codeword's columns as a number.
+-- Assumes nothing.
+use mathlib.Core.Path.{_≡_, sym, ap, _∙_, subst}
+use mathlib.Core.List.{List, [], _∷_}
+use Prim.Native.Nat.{ℕ, _^_, _≤_, _<_}
+use borrow.Author.Needs.{needs}
+use borrow.Author.Tests.{le-leb, lt-leb}
+use Rattle.symbols.specs.Column.{Column}
+use Rattle.codes.specs.Answer.{accepted}
+use Rattle.codes.specs.Projection.{messageBits}
+use Rattle.codes.specs.Word.{wordNumber}
+use Rattle.codes.specs.Message.{encode}
+use Rattle.codes.specs.Codes.{projection}
+use Rattle.codes.proofs.Answers.{row-met, row-passed}
+use Rattle.codes.proofs.code.Code.encode.Statement.{statement}
+use Rattle.codes.proofs.code.Code.encode.Tie as tie
+
+message-limit-requires : tie.Need-message-limit-requires
+message-limit-requires c κs = search needs
+
+returns : tie.Need-returns
+returns c =
+    let a = c .before .before .args in
+    let π = projection (a .self) in
+    sym (row-met 2 [] (accepted (encode π (a .message) ∷ []))
+    (le-leb (2 ^ messageBits π) (a .message) (subst (λ (n : ℕ). n ≤ a .message) (c .before .message-limit .ensures) (c .if1 .taken))))
+
+codeword-requires : tie.Need-codeword-requires
+codeword-requires c κs = search needs
+
+pack-requires : tie.Need-pack-requires
+pack-requires c κs = search needs
+
+returns-2 : tie.Need-returns-2
+unfolding encode
+returns-2 c =
+    let a = c .before .before .before .before .args in
+    let π = projection (a .self) in
+    ap (λ (n : ℕ). accepted (n ∷ [])) (c .pack .ensures ∙ ap wordNumber (c .before .codeword .ensures))
+    ∙ sym (row-passed 2 [] (accepted (encode π (a .message) ∷ []))
+    (lt-leb (2 ^ messageBits π) (a .message) (subst (λ (n : ℕ). a .message < n) (c .before .before .before .message-limit .ensures) (c .before .before .if1 .left))))
+
+pub encode-spec : {M : Type 1} → statement M
+encode-spec =
+    tie.close (tie.spec message-limit-requires returns codeword-requires pack-requires returns-2)

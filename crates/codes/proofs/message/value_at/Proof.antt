@@ -1,0 +1,108 @@
+-- `codes::message::value_at` meets its contract: by whether the column is free.
+-- Assumes nothing.
+use mathlib.Core.Path.{_≡_, sym, ap, ap₂, _∙_}
+use mathlib.Core.Bool.{not}
+use mathlib.Core.List.{map}
+use Prim.Native.Nat.{ℕ, suc, _+_, _-_, _*_, _/_, _%_, _^_, _≤_, _<_}
+use native.Mathlib.Omega.{arith}
+use borrow.Author.Needs.{needs}
+use lib.ListN.{length, drop}
+use Rattle.symbols.specs.Symbol.{symbolOf}
+use Rattle.symbols.proofs.Numbers.{symbol-mod}
+use Rattle.codes.specs.Projection.{size, count, topBits}
+use Rattle.codes.specs.Codes.{projection}
+use Rattle.codes.proofs.Sums.{pow-mul}
+use Rattle.codes.proofs.Codes.{size-le, systematic}
+use Rattle.codes.proofs.Drafts.{behind, value-free, value-other, shifted}
+use Rattle.codes.proofs.message.value_at.Statement.{statement}
+use Rattle.codes.proofs.message.value_at.Tie as tie
+
+-- the columns behind this one, of both kinds
+parted : (s : tie.Start) →
+    count (drop (suc (s .args .column)) (projection (s .args .code) .free)) + count (map not (drop (suc (s .args .column)) (projection (s .args .code) .free)))
+    ≡ size (projection (s .args .code)) - suc (s .args .column)
+parted s =
+    behind (projection (s .args .code) .free) (s .args .column) (omega (arith, s .pre, systematic (s .args .code) .marks))
+    ∙ ap (λ (n : ℕ). n - suc (s .args .column)) (systematic (s .args .code) .marks)
+
+columns-requires : tie.Need-columns-requires
+columns-requires c κs = search needs
+
+sub-last : tie.Need-sub-last
+sub-last c = search needs
+
+free-behind-requires : tie.Need-free-behind-requires
+free-behind-requires c κs = search needs
+
+is-free-requires : tie.Need-is-free-requires
+is-free-requires c κs = search needs
+
+mul-result : tie.Need-mul-result
+mul-result c = let s = c .before .before .before .before in omega (arith, parted s, size-le (s .args .code))
+
+add-result : tie.Need-add-result
+add-result c = let s = c .before .before .before .before in omega (arith, parted s, size-le (s .args .code), c .before .before .before .columns .ensures)
+
+shr-result : tie.Need-shr-result
+shr-result c = let s = c .before .before .before .before in omega (arith, parted s, size-le (s .args .code), c .before .before .before .columns .ensures)
+
+cast-result : tie.Need-cast-result
+cast-result c = search needs
+
+returns : tie.Need-returns
+returns c =
+    let s = c .before .before .before .before in
+    let a = s .args in
+    let π = projection (a .code) in
+    let last : c .before .before .before .columns .result - 1 ≡ topBits π = ap (λ (n : ℕ). n - 1) (c .before .before .before .columns .ensures) in
+    symbol-mod (a .message / 2 ^ (c .before .before .before .columns .result - 1 + 2 * c .before .before .free-behind .result))
+    ∙ ap₂ (λ (k f : ℕ). symbolOf (a .message / 2 ^ (k + 2 * f))) last (c .before .before .free-behind .ensures)
+    ∙ ap symbolOf (sym (shifted (a .message) (topBits π) (count (drop (suc (a .column)) (π .free)))))
+    ∙ sym (value-free (π .free) (a .column) (omega (arith, s .pre, systematic (a .code) .marks)) (a .message / 2 ^ topBits π) (a .syndrome) (sym (c .before .is-free .ensures) ∙ c .if1 .taken))
+
+sub-others : tie.Need-sub-others
+sub-others c = search needs
+
+sub-others-2 : tie.Need-sub-others-2
+sub-others-2 c = let s = c .before .before .before .before in omega (arith, parted s, c .before .before .before .columns .ensures)
+
+mul-result-2 : tie.Need-mul-result-2
+mul-result-2 c = let s = c .before .before .before .before in omega (arith, size-le (s .args .code), c .before .before .before .columns .ensures)
+
+shr-result-2 : tie.Need-shr-result-2
+shr-result-2 c = let s = c .before .before .before .before in omega (arith, size-le (s .args .code), c .before .before .before .columns .ensures)
+
+cast-result-2 : tie.Need-cast-result-2
+cast-result-2 c = search needs
+
+returns-2 : tie.Need-returns-2
+returns-2 c =
+    let s = c .before .before .before .before in
+    let a = s .args in
+    let π = projection (a .code) in
+    let others : c .before .before .before .columns .result - 1 - a .column - c .before .before .free-behind .result ≡ count (map not (drop (suc (a .column)) (π .free))) =
+    omega (arith, parted s, c .before .before .free-behind .ensures, c .before .before .before .columns .ensures) in
+    symbol-mod (a .syndrome / 2 ^ (2 * (c .before .before .before .columns .result - 1 - a .column - c .before .before .free-behind .result)))
+    ∙ ap (λ (k : ℕ). symbolOf (a .syndrome / 2 ^ (2 * k))) others
+    ∙ ap (λ (x : ℕ). symbolOf (a .syndrome / x)) (sym (pow-mul 2 2 (count (map not (drop (suc (a .column)) (π .free))))))
+    ∙ sym (value-other (π .free) (a .column) (omega (arith, s .pre, systematic (a .code) .marks)) (a .message / 2 ^ topBits π) (a .syndrome) (sym (c .before .is-free .ensures) ∙ c .if1 .left))
+
+pub value-at-spec : {M : Type 1} → statement M
+value-at-spec =
+    tie.close
+    (tie.spec
+    columns-requires
+    sub-last
+    free-behind-requires
+    is-free-requires
+    mul-result
+    add-result
+    shr-result
+    cast-result
+    returns
+    sub-others
+    sub-others-2
+    mul-result-2
+    shr-result-2
+    cast-result-2
+    returns-2)
