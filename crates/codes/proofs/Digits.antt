@@ -11,8 +11,8 @@ use lib.Arith.{digits-lt, digits-div, digits-mod, mod-mul}
 use lib.Dec.{eqb, ltb, ltb→lt, lit<}
 use lib.ListN.{length}
 use lib.Pow.{shl-exact}
-use Rattle.symbols.specs.Symbol.{bit, symbolNumber}
-use Rattle.symbols.specs.Column.{one, columnNumber}
+use Rattle.symbols.specs.Symbol.{bit}
+use Rattle.symbols.specs.Column.{one}
 use Rattle.symbols.proofs.Every.{bits as all-bits, law, law-below, number-discrete}
 use Rattle.symbols.proofs.Numbers.{symbol-of-number, number-of-symbol, symbol-number-lt, symbol-mod, column-of-number, number-of-column, column-number-lt, column-mod}
 use Rattle.codes.specs.Digits.{Digit, bits, symbols, columns, digits, numberOf}
@@ -45,25 +45,17 @@ bits-fit =
     bit-number : (n : ℕ) → one (bit 0 n) ≡ n % 2
     bit-number n = law-below 2 number-discrete (λ k. one (eqb k 1)) (λ k. k) tt (n / 1 % 2) (mod-lt (n / 1) (lit< tt)) ∙ omega arith
 
+-- digits that are numbers below the base
+below-base : {A : Type 0} (d : Digit A) → 0 < d .base → ((x : A) → d .number x < d .base) → ((x : A) → d .lowest (d .number x) ≡ x) →
+    ((n : ℕ) → n < d .base → d .number (d .lowest n) ≡ n) → ((n : ℕ) → d .lowest (n % d .base) ≡ d .lowest n) → Fit d
+below-base d pos small back there modulo =
+    record { pos = pos; small = small; back = back; there = λ n. ap (d .number) (sym (modulo n)) ∙ there (n % d .base) (mod-lt n pos); modulo = modulo }
+
 pub symbols-fit : Fit symbols
-symbols-fit =
-    record {
-      pos = lit< tt;
-      small = symbol-number-lt;
-      back = symbol-of-number;
-      there = λ n. ap symbolNumber (sym (symbol-mod n)) ∙ number-of-symbol (n % 4) (mod-lt n (lit< tt));
-      modulo = symbol-mod;
-    }
+symbols-fit = below-base symbols (lit< tt) symbol-number-lt symbol-of-number number-of-symbol symbol-mod
 
 pub columns-fit : Fit columns
-columns-fit =
-    record {
-      pos = lit< tt;
-      small = column-number-lt;
-      back = column-of-number;
-      there = λ n. ap columnNumber (sym (column-mod n)) ∙ number-of-column (n % 16) (mod-lt n (lit< tt));
-      modulo = column-mod;
-    }
+columns-fit = below-base columns (lit< tt) column-number-lt column-of-number number-of-column column-mod
 
 pub length-digits : {A : Type 0} (d : Digit A) (k n : ℕ) → length (digits d k n) ≡ k
 length-digits d zero n = refl

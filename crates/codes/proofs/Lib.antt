@@ -14,3 +14,4 @@ pub mod Horner
 pub mod Readings
 pub mod Strict
 pub mod Answers
+pub mod Claims

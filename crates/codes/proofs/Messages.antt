@@ -99,6 +99,12 @@ word-below cs h =
     lt-of-lt-of-le (number-lt columns columns-fit cs)
     (subst (λ (x : ℕ). x ≤ 2 ^ 40) (sym (pow-mul 2 4 (length cs))) (pow-mono {i = 4 * length cs} {j = 40} (omega arith)))
 
+-- two words with the same columns are one
+pub same-columns : (π : Projection) (x y : ℕ) → x < 2 ^ width π → y < 2 ^ width π → word π x ≡ word π y → x ≡ y
+same-columns π x y hx hy e =
+    sym (number-again columns columns-fit (size π) x (subst (λ (b : ℕ). x < b) (sym (sixteens π)) hx))
+    ∙ ap wordNumber e ∙ number-again columns columns-fit (size π) y (subst (λ (b : ℕ). y < b) (sym (sixteens π)) hy)
+
 module _ (π : Projection) (sys : Systematic π) where
   -- the columns of a message's codeword
   pub word-encode : (n : ℕ) → word π (encode π n) ≡ codewordOf π (messageOf π n)

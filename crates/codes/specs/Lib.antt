@@ -7,3 +7,5 @@ pub mod Mending
 pub mod Answer
 pub mod Codes
 pub mod Walk
+pub mod Starred
+pub mod Claims

@@ -1,4 +1,6 @@
 // What the word calls answer.
+ghost use mathlib.Core.Path.{_≡_};
+ghost use Rattle.codes.specs.Codes.{refusalNumber};
 
 // Why a call is refused.
 pub enum Refusal {
@@ -7,6 +9,21 @@ pub enum Refusal {
     WordTooWide,
     NotACodeword,
     NoneNear,
+}
+
+impl Refusal {
+    // The number that is returned.
+    pub fn number(self) -> u64
+        ensures { λ r. ⌜ r ≡ refusalNumber self ⌝ }
+    {
+        match self {
+            Refusal::UnknownCode => 1,
+            Refusal::MessageTooLarge => 2,
+            Refusal::WordTooWide => 3,
+            Refusal::NotACodeword => 4,
+            Refusal::NoneNear => 5,
+        }
+    }
 }
 
 // Of writing: the codeword.

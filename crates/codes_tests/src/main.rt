@@ -1,0 +1,116 @@
+// Writing and strict reading, tried: document 01's words that are no theorems, and messages there and back.
+use codes::{Decoded, Encoded};
+use libc::STDOUT_FILENO;
+ghost use Prim.Native.Nat.{_≤_, _<_};
+
+fn text(bytes: &[u8]) {
+    io::write_all(STDOUT_FILENO, bytes);
+}
+
+fn decimal(n: u64) {
+    io::print_decimal(STDOUT_FILENO, n);
+}
+
+// An answer on a line: the word in hexadecimal, or the refusal.
+fn write(code: u64, message: u64) {
+    text(b"code ");
+    decimal(code);
+    text(b" writes ");
+    decimal(message);
+    match codes::encode(code, message) {
+        Encoded::Word(w) => {
+            text(b": ");
+            io::print_hex(STDOUT_FILENO, w, 9);
+        }
+        Encoded::Refused(r) => {
+            text(b": refused ");
+            decimal(r.number());
+        }
+    }
+    text(b"\n");
+}
+
+fn read(code: u64, word: u64) {
+    text(b"code ");
+    decimal(code);
+    text(b" reads ");
+    io::print_hex(STDOUT_FILENO, word, 9);
+    match codes::decode(code, word) {
+        Decoded::Message(m) => {
+            text(b": ");
+            decimal(m);
+        }
+        Decoded::Refused(r) => {
+            text(b": refused ");
+            decimal(r.number());
+        }
+    }
+    text(b"\n");
+}
+
+// Whether a message comes back from its codeword.
+fn comes_back(code: u64, message: u64) -> bool {
+    let Encoded::Word(w) = codes::encode(code, message) else {
+        return false;
+    };
+    let Decoded::Message(m) = codes::decode(code, w) else {
+        return false;
+    };
+    m == message
+}
+
+// How many of the messages below a limit, a stride apart, come back.
+fn back(code: u64, limit: u64, stride: u64) -> u64
+    requires { ⌜ (limit ≤ 4194304) × (0 < stride) × (stride ≤ 64) ⌝ }
+{
+    let mut message: u64 = 0;
+    let mut count: u64 = 0;
+    while message < limit {
+        count = count + counted(comes_back(code, message));
+        message += stride;
+    }
+    count
+}
+
+fn counted(bit: bool) -> u64
+    ensures { λ r. ⌜ r ≤ 1 ⌝ }
+{
+    if bit { 1 } else { 0 }
+}
+
+fn report(code: u64, limit: u64, stride: u64)
+    requires { ⌜ (limit ≤ 4194304) × (0 < stride) × (stride ≤ 64) ⌝ }
+{
+    text(b"code ");
+    decimal(code);
+    text(b", messages below ");
+    decimal(limit);
+    text(b", each ");
+    decimal(stride);
+    text(b": back ");
+    decimal(back(code, limit, stride));
+    text(b" of ");
+    decimal((limit + stride - 1) / stride);
+    text(b"\n");
+}
+
+fn main() {
+    write(1, 524287);
+    write(1, 524288);
+    write(3, 4194303);
+    write(3, 4194304);
+    write(0, 0);
+    write(5, 0);
+    write(1, 18446744073709551615);
+    read(1, 0x777777778);
+    read(2, 0x777777778);
+    read(1, 0x1000000000);
+    read(3, 0x10000000000);
+    read(0, 0);
+    read(5, 0);
+    read(4, 18446744073709551615);
+    report(1, 524288, 1);
+    report(2, 524288, 1);
+    report(3, 4194304, 41);
+    report(4, 4194304, 37);
+}
