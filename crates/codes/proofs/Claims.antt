@@ -1,28 +1,33 @@
 -- The claims of specs/Claims.antt, each from the law that shows it for every code that is systematic and whose codewords are apart.
 -- Assumes nothing.
-use mathlib.Core.Path.{_≡_, refl, sym, ap, _∙_}
+use mathlib.Core.Path.{_≡_, refl, sym, ap, _∙_, subst}
 use mathlib.Core.Bool.{Bool, true, false, not}
 use mathlib.Core.List.{List, [], _∷_}
-use Prim.Native.Nat.{ℕ, _^_, _≤_, _<_}
+use Prim.Native.Nat.{ℕ, _+_, _*_, _^_, _≤_, _<_}
 use native.Mathlib.Omega.{arith}
 use borrow.Author.Tests.{lt-leb, leb-false, leb-true}
-use lib.Dec.{leb}
+use lib.Dec.{leb, lit<}
 use Rattle.symbols.specs.Symbol.{_⊻_}
 use Rattle.symbols.specs.Column.{columnWith}
 use Rattle.codes.specs.declared.code.Code.{Code}
+use Rattle.codes.specs.declared.code.Code.the-variants.{O36, E36}
 use Rattle.codes.specs.Answer.{Answer, accepted, refused}
 use Rattle.codes.specs.Digits.{columns}
 use Rattle.codes.specs.Projection.{size, width, messageBits}
 use Rattle.codes.specs.Word.{word, isCodeword, distance}
 use Rattle.codes.specs.Message.{encode, decode}
-use Rattle.codes.specs.Codes.{projection, reading, notACodeword}
-use Rattle.codes.specs.Claims.{IsCodeword, RoundTrip, OneMessage, StrictReading, SumOfCodewords, EightApart, Starred}
+use Rattle.codes.specs.Mending.{wrong, ones, Mended, near, none, mend}
+use Rattle.codes.specs.Codes.{projection, reading, notACodeword, mendedAnswer, mending}
+use Rattle.codes.specs.Search.{Near}
+use Rattle.codes.specs.Claims.{IsCodeword, RoundTrip, OneMessage, StrictReading, SumOfCodewords, EightApart, IsNear, OneNear, EightIsFar, MendsNear, RefusesFar, Starred}
 use Rattle.codes.proofs.Digits.{length-digits}
 use Rattle.codes.proofs.Words.{parity-of, is-codeword, codeword-sum}
 use Rattle.codes.proofs.Distance.{close-same}
 use Rattle.codes.proofs.Messages.{encode-below, encode-codeword, decode-encode, decode-below, encode-decode, same-columns}
 use Rattle.codes.proofs.Codes.{systematic, apart}
 use Rattle.codes.proofs.Answers.{row-met, row-passed}
+use Rattle.codes.proofs.Mends as mends
+use Rattle.codes.proofs.Mends.{mended, mend-near, mend-none, mending-fits}
 
 pub round-trip : RoundTrip
 round-trip c n h =
@@ -47,6 +52,7 @@ strict-reading c x = (accepts, λ vs e. only vs e (leb (2 ^ width (projection c)
     accepts k =
         let π = projection c in
         row-passed 3 (notACodeword π x ∷ []) (accepted (decode π x ∷ [])) (lt-leb (2 ^ width π) x (k .0)) ∙ row-passed 4 [] (accepted (decode π x ∷ [])) (ap not (k .1))
+
     only : (vs : List ℕ) → reading (projection c) x ≡ accepted vs → (wide is : Bool) →
         leb (2 ^ width (projection c)) x ≡ wide → isCodeword (projection c) (word (projection c) x) ≡ is → IsCodeword c x
     only vs e true is w f = absurd (not-both e (row-met 3 (notACodeword (projection c) x ∷ []) (accepted (decode (projection c) x ∷ [])) w))
@@ -74,6 +80,74 @@ eight-apart c x y k l differ = go (leb 8 (distance (word (projection c) x) (word
         (close-same π (apart c) (a .0) (b .0) (word π x) (word π y) (length-digits columns (size π) x) (length-digits columns (size π) y) (a .1) (b .1)
         (omega (arith, leb-false 8 (distance (word π x) (word π y)) e)))))
 
+-- near as a claim says it, and as mending's laws do
+near-of : (c : Code) (w m x : ℕ) → IsNear c w m x → Near (projection c) w m x
+near-of c w m x n = record { fits = n .0 .0; codeword = n .0 .1; near = n .1 }
+
+of-near : (c : Code) (w m x : ℕ) → Near (projection c) w m x → IsNear c w m x
+of-near c w m x n = ((n .fits, n .codeword), n .near)
+
+pub one-near : OneNear
+one-near c w m x y a b = mends.one-near (projection c) w m (systematic c) (apart c) x y (near-of c w m x a) (near-of c w m y b)
+
+pub eight-is-far : EightIsFar
+eight-is-far c w m x k e y b = mends.eight-none (projection c) w m (systematic c) (apart c) x (k .0) (k .1) e y (near-of c w m y b)
+
+pub mends-near : MendsNear
+mends-near c w m hw hm = (gives, λ vs e. only vs (mend (projection c) w m) refl (sym (mending-fits (projection c) w m hw hm) ∙ e))
+  where
+    gives : (x : ℕ) → IsNear c w m x →
+        mending (projection c) w m ≡ accepted (x ∷ decode (projection c) x ∷ wrong (projection c) w m x ∷ ones (projection c) m ∷ [])
+    gives x n = mending-fits (projection c) w m hw hm ∙ ap mendedAnswer (mend-near (projection c) w m (systematic c) (apart c) x (near-of c w m x n))
+
+    only : (vs : List ℕ) (r : Mended) → mend (projection c) w m ≡ r → mendedAnswer r ≡ accepted vs →
+        (x : ℕ) × IsNear c w m x × (vs ≡ x ∷ decode (projection c) x ∷ wrong (projection c) w m x ∷ ones (projection c) m ∷ [])
+    only vs none e a = absurd (not-both a refl)
+    only vs (near x n k l) e a =
+        let π = projection c in
+        let given = mended π w m x n k l e in
+        let codeword = given .1 in
+        let message : decode π x ≡ n = ap (decode π) codeword ∙ decode-encode π (systematic c) n (given .0) in
+        let values : x ∷ n ∷ k ∷ l ∷ [] ≡ vs = cc in (
+          x,
+          ((subst (λ (z : ℕ). z < 2 ^ width π) (sym codeword) (encode-below π (systematic c) n), ap (λ (z : ℕ). isCodeword π (word π z)) codeword ∙ encode-codeword π (systematic c) n), given .4),
+          sym values ∙ cc (message, given .2, given .3),
+        )
+
+pub refuses-far : RefusesFar
+refuses-far c w m hw hm = (refuses, only)
+  where
+    refuses : ((x : ℕ) → IsNear c w m x → ⊥) → mending (projection c) w m ≡ refused 5
+    refuses empty =
+        mending-fits (projection c) w m hw hm
+        ∙ ap mendedAnswer (mend-none (projection c) w m (systematic c) (apart c) (λ y n. empty y (of-near c w m y n)))
+
+    only : mending (projection c) w m ≡ refused 5 → (x : ℕ) → IsNear c w m x → ⊥
+    only e x n = not-both (mends-near c w m hw hm .0 x n) e
+
+-- a word from which a codeword has a sum of 8 is refused
+lost-sample : (c : Code) (w m x : ℕ) → w < 2 ^ width (projection c) → m < 2 ^ width (projection c) → IsCodeword c x →
+    2 * wrong (projection c) w m x + ones (projection c) m ≡ 8 → mending (projection c) w m ≡ refused 5
+lost-sample c w m x hw hm k e = refuses-far c w m hw hm .0 (eight-is-far c w m x k e)
+
+infixr 10 _&_
+_&_ : {A B : Type 0} → A → B → A × B
+a & b = (a, b)
+
 pub starred : Starred
-unfolding encode columnWith
-starred = (refl, (refl, (refl, (refl, (refl, (refl, tt))))))
+unfolding encode columnWith decode isCodeword
+starred =
+    refl
+    & refl
+    & refl
+    & refl
+    & refl
+    & refl
+    & mends-near O36 0x2E485A2D4 0 (lit< tt) (lit< tt) .0 0x2E48722D4 ((lit< tt, refl), refl)
+    & mends-near E36 0x2D711B194 0 (lit< tt) (lit< tt) .0 0x2D717B114 ((lit< tt, refl), refl)
+    & mends-near O36 0xE00000000 0 (lit< tt) (lit< tt) .0 0 ((lit< tt, refl), refl)
+    & lost-sample O36 0xF00000000 0 0 (lit< tt) (lit< tt) (lit< tt, refl) refl
+    & mends-near O36 0xF00000000 0xF00000000 (lit< tt) (lit< tt) .0 0 ((lit< tt, refl), refl)
+    & mends-near O36 0xE00000000 0x080000000 (lit< tt) (lit< tt) .0 0 ((lit< tt, refl), refl)
+    & lost-sample O36 0xE00000000 0x0C0000000 0 (lit< tt) (lit< tt) (lit< tt, refl) refl
+    & tt

@@ -17,7 +17,7 @@ use Rattle.symbols.proofs.Every.{bits, columns, symbols, _⊗_, law, implied, p
 use Rattle.symbols.proofs.Columns.{odd-weight, even-weight, flat-weight}
 use Rattle.codes.specs.Vector.{zeros, addV, scale, isZeroV}
 use Rattle.codes.specs.Projection.{Projection, TopRule, ruleO, ruleE, wanted, size, count}
-use Rattle.codes.specs.Word.{_⊞_, syndrome, allParity, topRow, weightOf, distance}
+use Rattle.codes.specs.Word.{_⊞_, syndrome, syndromeOf, allParity, topRow, weightOf, distance}
 use Rattle.codes.proofs.Vectors.{addV-assoc, zero-add, zero-zeros}
 use Rattle.codes.proofs.Words.{Codeword, codeword-sum, length-map, length-sum, parity-first, parity-rest}
 
@@ -70,7 +70,7 @@ settled r (h ∷ H) k s z f (v ∷ vs) e l i =
     (ap isZeroV (addV-assoc s (scale v h) (syndrome r H vs)) ∙ i))
 
 -- the ones of an even word, by its values and its tops
-even-live : (cs : List Column) → allParity false cs ≡ true → 2 * live (map value cs) ≤ weightOf cs
+pub even-live : (cs : List Column) → allParity false cs ≡ true → 2 * live (map value cs) ≤ weightOf cs
 even-live [] e = omega arith
 even-live (c ∷ cs) e = go (isZero (value c)) refl (even-live cs (parity-rest false c cs e))
   where
@@ -78,16 +78,16 @@ even-live (c ∷ cs) e = go (isZero (value c)) refl (even-live cs (parity-rest f
     go true z h = omega (arith, ap (λ (b : Bool). one (not b)) z)
     go false z h = omega (arith, ap (λ (b : Bool). one (not b)) z, even-weight c (parity-first false c cs e) z)
 
+pub count-cons : (b : Bool) (l : List Bool) → count (b ∷ l) ≡ one b + count l
+count-cons true l = omega arith
+count-cons false l = omega arith
+
 flat-tops : (cs : List Column) → allParity false cs ≡ true → allZero (map value cs) ≡ true → weightOf cs ≡ 4 * count (map top cs)
 flat-tops [] e z = refl
 flat-tops (c ∷ cs) e z =
     let both = and-eq-true-iff (isZero (value c)) (allZero (map value cs)) .0 z in
     let rest = flat-tops cs (parity-rest false c cs e) (both .1) in
     omega (arith, flat-weight c (parity-first false c cs e) (both .0), count-cons (top c) (map top cs))
-  where
-    count-cons : (b : Bool) (l : List Bool) → count (b ∷ l) ≡ one b + count l
-    count-cons true l = omega arith
-    count-cons false l = omega arith
 
 -- where there is at most one top bit, the top row's parity tells whether
 few-step : (t r : Bool) (l : List Bool) → (count l ≤ 1 → one r ≡ count l) → count (t ∷ l) ≤ 1 → one (t ⊻ r) ≡ count (t ∷ l)
@@ -116,13 +116,18 @@ pub wanted-even : (r : TopRule) → wanted r false ≡ false
 wanted-even ruleO = refl
 wanted-even ruleE = refl
 
+-- an even word whose syndrome is zero and that has fewer than eight ones has none, or one full column
+pub even-light : (π : Projection) → Apart π → (cs : List Column) → length cs ≡ size π → isZeroV (syndromeOf π cs) ≡ true → allParity false cs ≡ true →
+    weightOf cs ≤ 7 → weightOf cs ≡ 4 * one (topRow cs)
+even-light π a cs e z t h =
+    let flat = settled (π .rows) (π .matrix) 3 [] true (a .independent) (map value cs) (length-map value cs ∙ e) (omega (arith, even-live cs t)) z in
+    let full = flat-tops cs t (test-true (allZero (map value cs)) flat) in
+    omega (arith, few-tops cs (omega arith))
+
 -- a codeword with fewer than eight ones has none
 pub light : (π : Projection) → Apart π → (p : Bool) (cs : List Column) → length cs ≡ size π → Codeword π p cs → weightOf cs ≤ 7 → weightOf cs ≡ 0
 light π a true cs e k h = absurd (omega (arith, a .odd cs e k))
-light π a false cs e k h =
-    let flat = settled (π .rows) (π .matrix) 3 [] true (a .independent) (map value cs) (length-map value cs ∙ e) (omega (arith, even-live cs (k .parities))) (k .zero) in
-    let full = flat-tops cs (k .parities) (test-true (allZero (map value cs)) flat) in
-    omega (arith, few-tops cs (omega arith), ap one (k .tops ∙ wanted-even (π .rule)))
+light π a false cs e k h = omega (arith, even-light π a cs e (k .zero) (k .parities) h, ap one (k .tops ∙ wanted-even (π .rule)))
 
 no-ones : (c d : Column) → weight (c ⊕ d) ≡ 0 → c ≡ d
 no-ones c d e =

@@ -15,3 +15,10 @@ pub mod Readings
 pub mod Strict
 pub mod Answers
 pub mod Claims
+pub mod Flips
+pub mod Nearness
+pub mod Differences
+pub mod Searches
+pub mod Tables
+pub mod Mends
+pub mod Laws

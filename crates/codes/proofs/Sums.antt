@@ -2,20 +2,20 @@
 -- Where a base is a power of two, an operation that goes bit by bit goes digit by digit: it commutes with taking a number's quotient
 -- and its remainder by a power of two, so one digit of its result is what it makes of two digits, and that is a test over all digits.
 -- Assumes nothing.
-use mathlib.Core.Path.{_≡_, refl, sym, ap, ap₂, _∙_, subst}
-use mathlib.Core.Bool.{Bool, _||_, Bool-discrete}
+use mathlib.Core.Path.{_≡_, refl, sym, ap, ap₂, _∙_}
+use mathlib.Core.Bool.{_||_, Bool-discrete}
 use mathlib.Core.List.{List, [], _∷_}
-use Prim.Native.Nat.{ℕ, zero, suc, _+_, _*_, _/_, _%_, _^_, _<_}
+use Prim.Native.Nat.{ℕ, zero, suc, _*_, _/_, _%_, _^_, _<_}
 use native.Mathlib.Nat.{mod-lt, mul-zero, mul-suc, pow-zero, pow-suc}
-use lib.Bits.{bitXor, bitOr, xor-shr, xor-mod, xor-lt, or-shr, or-mod, or-lt}
+use lib.Bits.{bitXor, bitOr, xor-shr, xor-mod, or-shr, or-mod}
 use lib.Dec.{T}
 use lib.Pow.{pow-add}
-use Rattle.symbols.specs.Symbol.{Symbol, Symbol-discrete, add}
+use Rattle.symbols.specs.Symbol.{Symbol-discrete, add}
 use Rattle.symbols.specs.Column.{Column, column, Column-discrete, _⊕_}
 use Rattle.symbols.proofs.Every.{below, at-below, passes, passed}
 use Rattle.codes.specs.Digits.{Digit, symbols, columns, digits}
 use Rattle.codes.specs.Vector.{addV}
-use Rattle.codes.specs.Projection.{Projection, size, width}
+use Rattle.codes.specs.Projection.{Projection, size}
 use Rattle.codes.specs.Word.{word, _⊞_}
 use Rattle.codes.proofs.Digits.{Fit, symbols-fit, columns-fit}
 
@@ -24,10 +24,10 @@ pub record Bitwise (op : ℕ → ℕ → ℕ) : Type 0 where
   pub quotient : (a b k : ℕ) → op a b / 2 ^ k ≡ op (a / 2 ^ k) (b / 2 ^ k)
   pub remainder : (a b k : ℕ) → op a b % 2 ^ k ≡ op (a % 2 ^ k) (b % 2 ^ k)
 
-pub xor-bitwise : Bitwise bitXor
+xor-bitwise : Bitwise bitXor
 xor-bitwise = record { quotient = xor-shr; remainder = xor-mod }
 
-pub or-bitwise : Bitwise bitOr
+or-bitwise : Bitwise bitOr
 or-bitwise = record { quotient = or-shr; remainder = or-mod }
 
 -- two lists of one length, element by element
@@ -59,7 +59,7 @@ module _ {A : Type 0} (d : Digit A) (fit : Fit d) (w : ℕ) (power : d .base ≡
       ∙ small-digit (a % d .base) (b % d .base) (mod-lt a (fit .pos)) (mod-lt b (fit .pos))
       ∙ ap₂ f (fit .modulo a) (fit .modulo b)
 
-  pub digits-op : (k a b : ℕ) → digits d k (op a b) ≡ zip f (digits d k a) (digits d k b)
+  digits-op : (k a b : ℕ) → digits d k (op a b) ≡ zip f (digits d k a) (digits d k b)
   digits-op zero a b = refl
   digits-op (suc k) a b =
       let e : d .base ^ k ≡ 2 ^ (w * k) = ap (λ (x : ℕ). x ^ k) power ∙ pow-mul 2 w k in
@@ -81,10 +81,13 @@ zip-sum [] b = refl
 zip-sum (x ∷ xs) [] = refl
 zip-sum (x ∷ xs) (y ∷ ys) = ap (λ (l : List Column). (x ⊕ y) ∷ l) (zip-sum xs ys)
 
+pub columns-xor : (k a b : ℕ) → digits columns k (bitXor a b) ≡ digits columns k a ⊞ digits columns k b
+columns-xor k a b =
+    digits-op columns columns-fit 4 refl (Column-discrete Bool-discrete) bitXor xor-bitwise _⊕_ tt k a b
+    ∙ zip-sum (digits columns k a) (digits columns k b)
+
 pub word-xor : (π : Projection) (a b : ℕ) → word π (bitXor a b) ≡ word π a ⊞ word π b
-word-xor π a b =
-    digits-op columns columns-fit 4 refl (Column-discrete Bool-discrete) bitXor xor-bitwise _⊕_ tt (size π) a b
-    ∙ zip-sum (word π a) (word π b)
+word-xor π a b = columns-xor (size π) a b
 
 -- words joined by or
 abbrev pub orIn : Column → Column → Column

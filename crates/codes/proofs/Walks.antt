@@ -56,7 +56,7 @@ walked-more r h H c cs s t n g eh eg w =
       odd = count-cons (parity c) (map parity cs) n (w .odd);
     }
 
-shaped-at : (r : ℕ) (H : List (List Symbol)) (j : ℕ) → shaped r H ≡ true → j < length H → length (getD H j []) ≡ r
+pub shaped-at : (r : ℕ) (H : List (List Symbol)) (j : ℕ) → shaped r H ≡ true → j < length H → length (getD H j []) ≡ r
 shaped-at r [] j s l = absurd (omega arith)
 shaped-at r (h ∷ hs) zero s l = eqb-true (length h) r (and-eq-true-iff (eqb (length h) r) (shaped r hs) .0 s .0)
 shaped-at r (h ∷ hs) (suc j) s l = shaped-at r hs j (and-eq-true-iff (eqb (length h) r) (shaped r hs) .0 s .1) (omega arith)

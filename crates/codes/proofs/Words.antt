@@ -82,7 +82,7 @@ codeword-parts π p cs e =
     let rest = and-eq-true-iff (allParity p cs) (Bool·beq (topRow cs) (wanted (π .rule) p)) .0 (both .1) in
     record { zero = both .0; parities = rest .0; tops = same-bit (topRow cs) (wanted (π .rule) p) (rest .1) }
 
-codeword-of : (π : Projection) (p : Bool) (cs : List Column) → Codeword π p cs → isCodewordOf π p cs ≡ true
+pub codeword-of : (π : Projection) (p : Bool) (cs : List Column) → Codeword π p cs → isCodewordOf π p cs ≡ true
 codeword-of π p cs k = ap₂ _&&_ (k .zero) (ap₂ _&&_ (k .parities) (bit-same (topRow cs) (wanted (π .rule) p) (k .tops)))
 
 -- a codeword has one of the two parities

@@ -1,16 +1,17 @@
--- The claims about the four codes (demand 2; document 01, 'The four codes'). Each is one definition, and one theorem of the same
+-- The claims about the four codes (demand 2; document 01, 'The four codes' and 'Mending'). Each is one definition, and one theorem of the same
 -- name in proofs/Claims.antt. They speak of the definitions, and so, by the contracts, of the functions.
 -- Assumes nothing.
 use mathlib.Core.Path.{_≡_}
 use mathlib.Core.Bool.{true}
 use mathlib.Core.List.{List, [], _∷_}
-use Prim.Native.Nat.{ℕ, _^_, _≤_, _<_}
+use Prim.Native.Nat.{ℕ, _+_, _*_, _^_, _≤_, _<_}
 use Rattle.codes.specs.declared.code.Code.{Code}
-use Rattle.codes.specs.Answer.{accepted}
+use Rattle.codes.specs.Answer.{accepted, refused}
 use Rattle.codes.specs.Projection.{width, messageBits}
 use Rattle.codes.specs.Word.{word, isCodeword, _⊞_, distance}
 use Rattle.codes.specs.Message.{encode, decode}
-use Rattle.codes.specs.Codes.{projection, writing, reading}
+use Rattle.codes.specs.Mending.{wrong, ones, isNear}
+use Rattle.codes.specs.Codes.{projection, reading, mending}
 use Rattle.codes.specs.Starred.{starredWords, Each}
 
 -- a number that is a codeword of a code
@@ -47,6 +48,36 @@ SumOfCodewords =
 abbrev pub EightApart : Type 0
 EightApart =
     (c : Code) (x y : ℕ) → IsCodeword c x → IsCodeword c y → (x ≡ y → ⊥) → 8 ≤ distance (word (projection c) x) (word (projection c) y)
+
+-- a codeword that is near a word under marks
+abbrev pub IsNear : Code → ℕ → ℕ → ℕ → Type 0
+IsNear c w m x = IsCodeword c x × (isNear (projection c) w m x ≡ true)
+
+-- 'A codeword is near if 2·wrong + marks is at most 7; there is at most one'
+abbrev pub OneNear : Type 0
+OneNear = (c : Code) (w m x y : ℕ) → IsNear c w m x → IsNear c w m y → x ≡ y
+
+-- where 2·wrong + marks is exactly 8 for a codeword, none is near
+abbrev pub EightIsFar : Type 0
+EightIsFar =
+    (c : Code) (w m x : ℕ) → IsCodeword c x → 2 * wrong (projection c) w m x + ones (projection c) m ≡ 8 →
+    (y : ℕ) → IsNear c w m y → ⊥
+
+-- 'The answer is the codeword, its message, wrong and the number of marks': given exactly where that codeword is near
+abbrev pub MendsNear : Type 0
+MendsNear =
+    (c : Code) (w m : ℕ) → w < 2 ^ width (projection c) → m < 2 ^ width (projection c) →
+    ((x : ℕ) → IsNear c w m x →
+    mending (projection c) w m ≡ accepted (x ∷ decode (projection c) x ∷ wrong (projection c) w m x ∷ ones (projection c) m ∷ []))
+    × ((values : List ℕ) → mending (projection c) w m ≡ accepted values →
+    (x : ℕ) × IsNear c w m x × (values ≡ x ∷ decode (projection c) x ∷ wrong (projection c) w m x ∷ ones (projection c) m ∷ []))
+
+-- 'no near codeword': refusal 5, exactly there
+abbrev pub RefusesFar : Type 0
+RefusesFar =
+    (c : Code) (w m : ℕ) → w < 2 ^ width (projection c) → m < 2 ^ width (projection c) →
+    (((x : ℕ) → IsNear c w m x → ⊥) → mending (projection c) w m ≡ refused 5)
+    × (mending (projection c) w m ≡ refused 5 → (x : ℕ) → IsNear c w m x → ⊥)
 
 -- 'Starred ones are theorems'
 abbrev pub Starred : Type 0

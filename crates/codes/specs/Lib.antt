@@ -9,3 +9,4 @@ pub mod Codes
 pub mod Walk
 pub mod Starred
 pub mod Claims
+pub mod Search

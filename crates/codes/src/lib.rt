@@ -5,7 +5,10 @@
 mod answer;
 mod calls;
 mod code;
+mod mend;
 mod message;
+mod search;
+mod table;
 mod word;
 
 pub use answer::Corrected;
@@ -17,3 +20,4 @@ pub use calls::decode;
 pub use calls::encode;
 pub use code::Code;
 pub use code::CodeFound;
+pub use mend::correct;

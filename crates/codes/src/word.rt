@@ -13,7 +13,7 @@ ghost use Rattle.codes.specs.Word.{word, wordNumber};
 ghost use Rattle.codes.specs.Walk.{held, scaledColumns, Walked};
 
 // The columns of each check matrix times 0, 1, 2 and 3, packed with the first row highest.
-const SCALED_36: [u8; 40] = [
+pub const SCALED_36: [u8; 40] = [
     0,
     64,
     128,
@@ -56,7 +56,7 @@ const SCALED_36: [u8; 40] = [
     0,
 ];
 
-const SCALED_40: [u8; 40] = [
+pub const SCALED_40: [u8; 40] = [
     0,
     78,
     135,
@@ -133,7 +133,7 @@ pub fn scaled_columns(code: Code) -> [u8; 40]
 }
 
 // A column of the check matrix times a symbol, packed, out of the table of all of them.
-fn scaled_at(code: Code, scaled: &[u8; 40], column: usize, symbol: u8) -> u8
+pub fn scaled_at(code: Code, scaled: &[u8; 40], column: usize, symbol: u8) -> u8
     requires { ⌜ (now scaled ≡ scaledColumns (projection code)) × (column < size (projection code)) × (symbol < 4) ⌝ }
     ensures { λ r. ⌜ r ≡ numberOf symbols (scale (symbolOf symbol) (getD (projection code .matrix) column [])) ⌝ }
 {

@@ -1,5 +1,6 @@
 // Writing and strict reading, tried: document 01's words that are no theorems, and messages there and back.
-use codes::{Decoded, Encoded};
+use codes::Decoded;
+use codes::Encoded;
 use libc::STDOUT_FILENO;
 ghost use Prim.Native.Nat.{_≤_, _<_};
 

@@ -1,0 +1,157 @@
+-- What a word's parities and syndrome say of its difference from a codeword.
+-- A column of another parity than the codeword's differs in a position. The difference's syndrome is the word's, so where no choice of at
+-- most k live values has that syndrome, the difference has more than k live columns: each has a one, and two where all columns are even.
+-- The table of entries tells this for k = 0 and 1, and names the one live column else: a computed test of all syndromes.
+-- Assumes nothing.
+use mathlib.Core.Path.{_≡_, refl, sym, ap, ap₂, _∙_, subst}
+use mathlib.Core.Bool.{Bool, true, false, not, _&&_, _||_}
+use mathlib.Core.List.{List, [], _∷_, map}
+use Prim.Native.Nat.{ℕ, zero, suc, _+_, _-_, _*_, _/_, _%_, _^_, _≤_, _<_}
+use native.Mathlib.Nat.{zero-div}
+use native.Mathlib.Omega.{arith}
+use lib.Dec.{T, leb, leb→le, ltb, ltb→lt, eqb, eqb→eq}
+use borrow.Author.Tests.{eq-eqb, ne-eqb}
+use lib.ListN.{length, getD}
+use Rattle.symbols.specs.Symbol.{_⊻_, Symbol, isZero, symbolOf}
+use Rattle.symbols.specs.Column.{Column, value, parity, one, weight, _⊕_}
+use Rattle.symbols.proofs.Every.{columns as all-columns, _⊗_, below, at-below, and-left, and-right}
+use Rattle.symbols.proofs.Symbols.{add-self}
+use Rattle.codes.specs.Digits.{symbols, digits, numberOf}
+use Rattle.codes.specs.Vector.{addV, scale, isZeroV}
+use Rattle.codes.specs.Projection.{Projection, size}
+use Rattle.codes.specs.Word.{_⊞_, syndromeOf, allParity, weightOf, distance}
+use Rattle.codes.specs.Search.{entry, tableFrom, entryTable, lacks}
+use Rattle.codes.proofs.Vectors.{addV-assoc, zero-add}
+use Rattle.codes.proofs.Words.{length-sum, length-map, syndrome-sum, parity-first, parity-rest, parity-cons}
+use Rattle.codes.proofs.Distance.{isLive, live, settles, settled, even-live, count-cons, test-true}
+
+-- columns that lack a parity
+lacks-bit : (p : Bool) (x y : Column) → parity y ≡ p → one (p ⊻ parity x) ≤ weight (x ⊕ y)
+lacks-bit p x y e =
+    subst (λ (q : Bool). one (q ⊻ parity x) ≤ weight (x ⊕ y)) e
+    (leb→le _ _ ((all-columns ⊗ all-columns) .at (λ (x, y). leb (one (parity y ⊻ parity x)) (weight (x ⊕ y))) tt (x, y)))
+
+pub lacks-distance : (p : Bool) (f c : List Column) → length f ≡ length c → allParity p c ≡ true → lacks p f ≤ distance f c
+lacks-distance p [] c e t = omega arith
+lacks-distance p (x ∷ xs) [] e t = absurd (omega arith)
+lacks-distance p (x ∷ xs) (y ∷ ys) e t =
+    omega (
+      arith,
+      count-cons (p ⊻ parity x) (map (λ c. p ⊻ parity c) xs),
+      lacks-bit p x y (parity-first p y ys t),
+      lacks-distance p xs ys (omega arith) (parity-rest p y ys t),
+    )
+
+pub lacks-both : (cs : List Column) → lacks true cs + lacks false cs ≡ length cs
+lacks-both [] = refl
+lacks-both (c ∷ cs) =
+    omega (arith, lacks-both cs, count-cons (not (parity c)) (map (λ c. not (parity c)) cs), count-cons (parity c) (map parity cs), one-either (parity c))
+  where
+    one-either : (b : Bool) → one (not b) + one b ≡ 1
+    one-either true = refl
+    one-either false = refl
+
+pub lacks-none : (p : Bool) (cs : List Column) → lacks p cs ≡ 0 → allParity p cs ≡ true
+lacks-none p [] e = refl
+lacks-none p (c ∷ cs) e =
+    let h = count-cons (p ⊻ parity c) (map (λ c. p ⊻ parity c) cs) in
+    parity-cons p c cs (agree p (parity c) (omega arith)) (lacks-none p cs (omega arith))
+  where
+    agree : (p q : Bool) → one (p ⊻ q) ≡ 0 → q ≡ p
+    agree true true z = refl
+    agree true false z = absurd (omega arith)
+    agree false true z = absurd (omega arith)
+    agree false false z = refl
+
+-- a vector added to itself is zero
+self-zero : (x : List Symbol) → isZeroV (addV x x) ≡ true
+self-zero [] = refl
+self-zero (x ∷ xs) = ap₂ (λ (s : Symbol) (b : Bool). isZero s && b) (add-self x) (self-zero xs)
+
+pub zero-digits : (r : ℕ) → isZeroV (digits symbols r 0) ≡ true
+zero-digits zero = refl
+zero-digits (suc r) = ap₂ (λ (n : ℕ) (b : Bool). isZero (symbolOf n) && b) (zero-div (4 ^ r)) (zero-digits r)
+
+-- live columns
+live-weight : (cs : List Column) → live (map value cs) ≤ weightOf cs
+live-weight [] = omega arith
+live-weight (c ∷ cs) =
+    omega (arith, leb→le (isLive (value c)) (weight c) (all-columns .at (λ c. leb (isLive (value c)) (weight c)) tt c), live-weight cs)
+
+module _ (π : Projection) (l : ℕ) (s : List Symbol) (test : T (settles (π .matrix) l s false)) (f c : List Column)
+    (known : s ≡ syndromeOf π f) (zero-sum : isZeroV (syndromeOf π c) ≡ true) (ef : length f ≡ size π) (ec : length c ≡ size π) where
+  none-live : live (map value (f ⊞ c)) ≤ l → ⊥
+  none-live h =
+      let e : length f ≡ length c = ef ∙ sym ec in
+      let a = syndromeOf π f in
+      let b = syndromeOf π c in
+      settled (π .rows) (π .matrix) l s false test (map value (f ⊞ c)) (length-map value (f ⊞ c) ∙ length-sum f c e ∙ ef) h
+      (ap₂ (λ (x y : List Symbol). isZeroV (addV x y)) known (syndrome-sum π f c e)
+      ∙ ap isZeroV (sym (addV-assoc a a b)) ∙ zero-add (addV a a) b zero-sum ∙ self-zero a)
+
+  -- each live column has a one
+  pub none-close : distance f c ≤ l → ⊥
+  none-close h = none-live (omega (arith, live-weight (f ⊞ c)))
+
+  -- where the difference is even, each has two
+  pub none-even : allParity false (f ⊞ c) ≡ true → distance f c ≤ 2 * l + 1 → ⊥
+  none-even t h = none-live (omega (arith, even-live (f ⊞ c) t))
+
+-- an entry names a column and a scale, not 0, that make the syndrome
+abbrev makes : Projection → ℕ → ℕ
+makes π e = numberOf symbols (scale (symbolOf (e % 4)) (getD (π .matrix) (e / 4 - 1) []))
+
+abbrev names : Projection → ℕ → ℕ → Bool
+names π s e = leb 4 e && (ltb (e / 4 - 1) (size π) && (not (isZero (symbolOf (e % 4))) && eqb (makes π e) s))
+
+-- the tests of a code's table
+pub record Tabled (π : Projection) : Type 0 where
+  pub nonzero : T (below 256 (λ s. eqb s 0 || settles (π .matrix) 0 (digits symbols (π .rows) s) false))
+  pub unnamed : T (below 256 (λ s. (eqb s 0 || not (eqb (entry π s) 0)) || settles (π .matrix) 1 (digits symbols (π .rows) s) false))
+  pub named : T (below 256 (λ s. eqb (entry π s) 0 || names π s (entry π s)))
+
+pub record Named (π : Projection) (s e : ℕ) : Type 0 where
+  pub from : 4 ≤ e
+  pub place : e / 4 - 1 < size π
+  pub scaling : not (isZero (symbolOf (e % 4))) ≡ true
+  pub made : makes π e ≡ s
+
+tested : (f g : ℕ → Bool) → T (below 256 (λ s. f s || g s)) → (s : ℕ) → s < 256 → f s ≡ false → T (g s)
+tested f g t s h e = subst (λ (b : Bool). T (b || g s)) e (at-below 256 (λ s. f s || g s) t s h)
+
+module _ (π : Projection) (tabled : Tabled π) (s : ℕ) (small : s < 256) where
+  pub zero-live : (s ≡ 0 → ⊥) → T (settles (π .matrix) 0 (digits symbols (π .rows) s) false)
+  zero-live n = tested (λ s. eqb s 0) (λ s. settles (π .matrix) 0 (digits symbols (π .rows) s) false) (tabled .nonzero) s small (ne-eqb s 0 n)
+
+  pub one-live : (s ≡ 0 → ⊥) → entry π s ≡ 0 → T (settles (π .matrix) 1 (digits symbols (π .rows) s) false)
+  one-live n e =
+      tested (λ s. eqb s 0 || not (eqb (entry π s) 0)) (λ s. settles (π .matrix) 1 (digits symbols (π .rows) s) false) (tabled .unnamed) s small
+      (ap₂ (λ (a b : Bool). a || not b) (ne-eqb s 0 n) (eq-eqb (entry π s) 0 e))
+
+  pub entry-names : (entry π s ≡ 0 → ⊥) → Named π s (entry π s)
+  entry-names n =
+      let e = entry π s in
+      let b = ltb (e / 4 - 1) (size π) in
+      let c = not (isZero (symbolOf (e % 4))) in
+      let d = eqb (makes π e) s in
+      let t = tested (λ s. eqb (entry π s) 0) (λ s. names π s (entry π s)) (tabled .named) s small (ne-eqb e 0 n) in
+      let u = and-right (leb 4 e) (b && (c && d)) t in
+      let v = and-right b (c && d) u in
+      record {
+        from = leb→le 4 e (and-left (leb 4 e) (b && (c && d)) t);
+        place = ltb→lt (e / 4 - 1) (size π) (and-left b (c && d) u);
+        scaling = test-true c (and-left c d v);
+        made = eqb→eq (makes π e) s (and-right c d v);
+      }
+
+-- an entry in the table
+getD-table : (n k : ℕ) (f : ℕ → ℕ) (i : ℕ) → i < n → getD (tableFrom n k f) i 0 ≡ f (k + i)
+getD-table zero k f i h = absurd (omega arith)
+getD-table (suc n) k f zero h = ap f (omega arith)
+getD-table (suc n) k f (suc i) h = getD-table n (suc k) f i (omega arith) ∙ ap f (omega arith)
+
+pub entry-at : (π : Projection) (l : List ℕ) (s : ℕ) → l ≡ entryTable π → s < 256 → getD l s 0 ≡ entry π s
+unfolding entryTable
+entry-at π l s e h =
+    let from : 0 + s ≡ s = omega arith in
+    ap (λ (l : List ℕ). getD l s 0) e ∙ getD-table 256 0 (entry π) s h ∙ ap (entry π) from

@@ -1,0 +1,15 @@
+-- `mending_tests::samples::ones` meets its contract: a number of 64 bits has at most 64 ones.
+-- Assumes nothing.
+use lib.Count.{ones-le}
+use native.Mathlib.Omega.{arith}
+use Rattle.mending_tests.proofs.samples.ones.Statement.{statement}
+use Rattle.mending_tests.proofs.samples.ones.Tie as tie
+
+cast-result : tie.Need-cast-result
+cast-result c = omega (arith, ones-le 64 (c .args .number) (omega arith))
+
+returns : tie.Need-returns
+returns c = omega (arith, ones-le 64 (c .args .number) (omega arith))
+
+pub ones-spec : {M : Type 1} → statement M
+ones-spec = tie.close (tie.spec cast-result returns)

@@ -1,0 +1,56 @@
+-- `mending_tests::search` is safe: it ends with the last message.
+-- Assumes nothing.
+use Prim.Native.Nat.{_-_}
+use native.Mathlib.Omega.{arith}
+use borrow.Author.Needs.{needs}
+use Rattle.mending_tests.proofs.search.Statement.{statement}
+use Rattle.mending_tests.proofs.search.Tie as tie
+
+abbrev Inv-loop : tie.InvT-loop
+Inv-loop code limit words marks near₀ kept₀ message₀ near kept message = Unit {0}
+
+abbrev μ-loop : tie.MeasureT-loop
+μ-loop code limit words marks near₀ kept₀ message₀ near kept message = limit - message
+
+loop-holds : tie.Need-loop-holds Inv-loop μ-loop
+loop-holds c = tt
+
+encode-requires : tie.Need-encode-requires Inv-loop μ-loop
+encode-requires c κs = search needs
+
+enum-known-codeword : tie.Need-enum-known-codeword Inv-loop μ-loop
+enum-known-codeword c = omega arith
+
+hold-requires : tie.Need-hold-requires Inv-loop μ-loop
+hold-requires c κs = search needs
+
+enum-told : tie.Need-enum-told Inv-loop μ-loop
+enum-told c = omega arith
+
+add-message : tie.Need-add-message Inv-loop μ-loop
+add-message c = omega arith
+
+loop-less : tie.Need-loop-less Inv-loop μ-loop
+loop-less c = omega arith
+
+loop-again : tie.Need-loop-again Inv-loop μ-loop
+loop-again c = tt
+
+returns : tie.Need-returns Inv-loop μ-loop
+returns c = omega arith
+
+pub search-spec : {M : Type 1} → statement M
+search-spec =
+    tie.close
+    (tie.spec
+    Inv-loop
+    μ-loop
+    loop-holds
+    encode-requires
+    enum-known-codeword
+    hold-requires
+    enum-told
+    add-message
+    loop-less
+    loop-again
+    returns)
