@@ -1,0 +1,35 @@
+-- A change of a slot in a buffer is the change at the slot's place, once the slot is found.
+-- Assumes nothing.
+use Prim.Native.Nat.{ℕ}
+use mathlib.Core.Path.{_≡_, refl}
+use mathlib.Core.List.{List, []}
+use Rattle.codes.specs.Answer.{accepted, refused, unless}
+use Rattle.trace.specs.declared.change.Change.{Change}
+use Rattle.trace.specs.Layout.{placeIn}
+use Rattle.trace.specs.Calls.{after}
+use Rattle.trace.specs.Trace.{projectionIn, refusals, gives, leaves, onBytes}
+use Rattle.trace.specs.Found.{Passes, Refuses, slotRows, callOf, changeRows, changed, changeAt}
+
+module _ (b : List ℕ) (slot : ℕ) where
+  -- the refusals of a change are its slot's and then its own
+  answer-split : (c : Change) → unless (refusals (callOf slot c) b) (gives (callOf slot c) b)
+      ≡ unless (slotRows b slot) (unless (changeRows (projectionIn b) (placeIn b slot) c b) (accepted []))
+  answer-split (Change.Put step reading) = refl
+  answer-split (Change.Flip position) = refl
+  answer-split (Change.Mark position) = refl
+  answer-split Change.Clear = refl
+
+  leaves-changed : (c : Change) → leaves (callOf slot c) b ≡ changed (projectionIn b) (placeIn b slot) c b
+  leaves-changed (Change.Put step reading) = refl
+  leaves-changed (Change.Flip position) = refl
+  leaves-changed (Change.Mark position) = refl
+  leaves-changed Change.Clear = refl
+
+  pub change-refused : (c : Change) (k : ℕ) → Refuses (slotRows b slot) k → after (refused k) b ≡ onBytes (callOf slot c) b
+  unfolding onBytes
+  change-refused c k e = rw (answer-split c, e (unless (changeRows (projectionIn b) (placeIn b slot) c b) (accepted [])))
+
+  pub change-found : (c : Change) → Passes (slotRows b slot) → changeAt (projectionIn b) (placeIn b slot) c b ≡ onBytes (callOf slot c) b
+  unfolding onBytes
+  change-found c e =
+      rw (answer-split c, e (unless (changeRows (projectionIn b) (placeIn b slot) c b) (accepted [])), leaves-changed c)

@@ -1,0 +1,49 @@
+-- How a call comes to its slot: what the trailer's numbers say of the buffer, and what an opened buffer says of a slot. Each refusal that
+-- is passed leaves the rows after it.
+-- Assumes nothing.
+use Prim.Native.Nat.{ℕ, _<_, _≤_}
+use mathlib.Core.Path.{_≡_, _∙_}
+use mathlib.Core.List.{List, [], _∷_}
+use native.Mathlib.Omega.{arith}
+use lib.ListN.{length}
+use borrow.Author.Tests.{le-ltb, le-leb, lt-leb}
+use Rattle.codes.specs.Answer.{unless}
+use Rattle.trace.specs.declared.layout.Place.{Place}
+use Rattle.trace.specs.declared.layout.Header.{Header}
+use Rattle.trace.specs.declared.layout.Opened.{Opened}
+use Rattle.trace.specs.Layout.{trailerAt, distanceIn, countIn, codeIn, editionIn, placeFrom}
+use Rattle.trace.specs.Trace.{absent}
+use Rattle.trace.specs.Found.{Refuses, Fitting, openRows, OpenedAs, Opening, Room, slotRows, FoundAt}
+
+pub opening : (b : List ℕ) → 8 ≤ length b → (r : Opened) → Fitting (trailerAt b) (distanceIn b) (countIn b) (codeIn b) (editionIn b) r → Opening b r
+opening b long (Opened.Fit h) f =
+    record {
+      passes = λ a. simp (le-ltb _ _ long, f .fit);
+      start = f .start;
+      slots = f .slots;
+      code = f .code;
+      inside = omega (arith, f .inside);
+      few = f .few;
+    }
+opening b long (Opened.Refused r) f = λ a. simp (le-ltb _ _ long, f .0, f .1)
+
+-- the slots of an opened buffer lie before its trailer
+pub room : (b : List ℕ) (h : Header) → OpenedAs b h → (slot : ℕ) → slot < h .slots → Room (length b) (placeFrom (h .start) slot)
+unfolding placeFrom
+room b h o slot lt = record { state = omega (arith, o .inside); word = omega (arith, o .inside); marks = omega (arith, o .inside) }
+
+module _ (b : List ℕ) (slot : ℕ) where
+  pub unopened : (k : ℕ) → Refuses (openRows b) k → Refuses (slotRows b slot) k
+  unopened k e = λ a. e (unless (absent b slot ∷ []) a)
+
+  pub not-found : (h : Header) → OpenedAs b h → h .slots ≤ slot → Refuses (slotRows b slot) 9
+  not-found h o le = λ a. o .passes (unless (absent b slot ∷ []) a) ∙ rw (le-leb (countIn b) slot (rw (o .slots) at le))
+
+  pub found : (h : Header) → OpenedAs b h → slot < h .slots → (p : Place) → p ≡ placeFrom (h .start) slot → FoundAt b slot p (h .code)
+  found h o lt p e =
+      record {
+        passes = λ a. o .passes (unless (absent b slot ∷ []) a) ∙ rw (lt-leb (countIn b) slot (rw (o .slots) at lt));
+        place = e ∙ rw (o .start);
+        code = o .code;
+        room = rw e (room b h o slot lt);
+      }

@@ -1,0 +1,70 @@
+-- The plain trace's sets: exclusive or and or with the bit of a position change that position alone. The bit of one position has no one
+-- at another; the digits of both operations are those of their operands' digits.
+-- Assumes nothing.
+use Prim.Native.Nat.{ℕ, zero, suc, _+_, _-_, _/_, _%_, _^_, _<_, max}
+use mathlib.Core.Path.{_≡_, refl}
+use mathlib.Core.Logic.{⊎-elim}
+use native.Mathlib.Nat.{pow-suc, div-eq-of-lt, div-self}
+use native.Mathlib.Omega.{arith}
+use lib.Pow.{pow-add, pow-lt, pow-pos, shl-shr}
+use lib.Bits.{bitXor, bitOr, differ, xor-shr, or-shr, or-step}
+use Rattle.codes.specs.Projection.{width}
+use Rattle.trace.specs.Claims.{FlipToggles, MarkAdds}
+use Rattle.trace.proofs.Xor.{lowest}
+use Rattle.trace.proofs.Refinement.{below}
+
+-- the digits of a power of two
+own-digit : (k : ℕ) → 2 ^ k / 2 ^ k % 2 ≡ 1
+own-digit k = rw (div-self (pow-pos k))
+
+other-digit : (j k : ℕ) → (j ≡ k → ⊥) → 2 ^ j / 2 ^ k % 2 ≡ 0
+other-digit j k h = ⊎-elim lower (λ le. higher (j - k - 1) (omega arith)) (below j k)
+  where
+    lower : j < k → 2 ^ j / 2 ^ k % 2 ≡ 0
+    lower lt = rw (div-eq-of-lt (pow-lt lt))
+
+    higher : (d : ℕ) → j ≡ suc d + k → 2 ^ j / 2 ^ k % 2 ≡ 0
+    higher d e = rw (e, pow-add 2 (suc d) k, shl-shr (2 ^ suc d) k, pow-suc 2 d) (omega arith)
+
+-- the lowest digit of both operations
+or-lowest : (a b : ℕ) → bitOr a b % 2 ≡ max (a % 2) (b % 2)
+or-lowest a b = omega (arith, or-step a b)
+
+toggled : (x : ℕ) → x < 2 → differ x 1 ≡ 1 - x
+toggled zero h = refl
+toggled (suc zero) h = refl
+toggled (suc (suc x)) h = absurd (omega arith)
+
+kept : (x : ℕ) → x < 2 → differ x 0 ≡ x
+kept zero h = refl
+kept (suc zero) h = refl
+kept (suc (suc x)) h = absurd (omega arith)
+
+-- at the position of a bit, and at another
+module _ (set j k : ℕ) where
+  digit-lt : set / 2 ^ k % 2 < 2
+  digit-lt = omega arith
+
+  xor-own : j ≡ k → bitXor set (2 ^ j) / 2 ^ k % 2 ≡ 1 - set / 2 ^ k % 2
+  xor-own e = rw (e, xor-shr set (2 ^ k) k, lowest (set / 2 ^ k) (2 ^ k / 2 ^ k), own-digit k) (toggled (set / 2 ^ k % 2) digit-lt)
+
+  xor-other : (j ≡ k → ⊥) → bitXor set (2 ^ j) / 2 ^ k % 2 ≡ set / 2 ^ k % 2
+  xor-other h = rw (xor-shr set (2 ^ j) k, lowest (set / 2 ^ k) (2 ^ j / 2 ^ k), other-digit j k h) (kept (set / 2 ^ k % 2) digit-lt)
+
+  or-own : j ≡ k → bitOr set (2 ^ j) / 2 ^ k % 2 ≡ 1
+  or-own e = rw (e, or-shr set (2 ^ k) k, or-lowest (set / 2 ^ k) (2 ^ k / 2 ^ k), own-digit k) (omega (arith, digit-lt))
+
+  or-other : (j ≡ k → ⊥) → bitOr set (2 ^ j) / 2 ^ k % 2 ≡ set / 2 ^ k % 2
+  or-other h = rw (or-shr set (2 ^ j) k, or-lowest (set / 2 ^ k) (2 ^ j / 2 ^ k), other-digit j k h) (omega arith)
+
+-- two positions of a word have the same bit where they are the same
+same-bit : (w i j : ℕ) → i < w → j < w → w - 1 - i ≡ w - 1 - j → j ≡ i
+same-bit w i j hi hj e = omega arith
+
+pub flip-toggles : FlipToggles
+flip-toggles π F position other hp ho =
+    (xor-own F _ _ refl, λ differs. xor-other F _ _ (λ e. differs (same-bit (width π) position other hp ho e)))
+
+pub mark-adds : MarkAdds
+mark-adds π M position other hp ho =
+    (or-own M _ _ refl, λ differs. or-other M _ _ (λ e. differs (same-bit (width π) position other hp ho e)))

@@ -1,0 +1,55 @@
+-- `trace::layout::seal` meets its contract: four numbers that lie one after the other are the trailer.
+-- Assumes nothing.
+use mathlib.Core.Path.{_∙_}
+use Rattle.trace.proofs.Layouts.{sealed}
+use borrow.Author.Needs.{needs}
+use Rattle.trace.proofs.layout.seal.Statement.{statement}
+use Rattle.trace.proofs.layout.seal.Tie as tie
+
+mul-store : tie.Need-mul-store
+mul-store c = search needs
+
+store-requires : tie.Need-store-requires
+store-requires c κs = search needs
+
+add-store : tie.Need-add-store
+add-store c = search needs
+
+store-requires-2 : tie.Need-store-requires-2
+store-requires-2 c κs = search needs
+
+add-store-2 : tie.Need-add-store-2
+add-store-2 c = search needs
+
+store-requires-3 : tie.Need-store-requires-3
+store-requires-3 c κs = search needs
+
+add-store-3 : tie.Need-add-store-3
+add-store-3 c = search needs
+
+store-requires-4 : tie.Need-store-requires-4
+store-requires-4 c κs = search needs
+
+same-length : tie.Need-same-length
+same-length c = search needs
+
+returns : tie.Need-returns
+returns c =
+    c .before .before .store4 .ensures
+    ∙ rw (c .before .before .before .before .before .before .store3 .ensures, c .before .before .before .before .before .before .before .before .before .before .store2 .ensures, c .before .before .before .before .before .before .before .before .before .before .before .before .before .before .store .ensures)
+    (sealed _ _ _ _ (c .before .before .before .before .before .before .before .before .before .before .before .before .before .before .before .before .before .pre .0))
+
+pub seal-spec : {M : Type 1} → statement M
+seal-spec =
+    tie.close
+    (tie.spec
+    mul-store
+    store-requires
+    add-store
+    store-requires-2
+    add-store-2
+    store-requires-3
+    add-store-3
+    store-requires-4
+    same-length
+    returns)

@@ -1,0 +1,29 @@
+-- `trace::slot::write` meets its contract: three numbers are stored.
+-- Assumes nothing.
+use mathlib.Core.Path.{_∙_}
+use Rattle.trace.specs.Layout.{storeAt}
+use borrow.Author.Needs.{needs}
+use Rattle.trace.proofs.slot.write.Statement.{statement}
+use Rattle.trace.proofs.slot.write.Tie as tie
+
+store-requires : tie.Need-store-requires
+store-requires c κs = search needs
+
+store-requires-2 : tie.Need-store-requires-2
+store-requires-2 c κs = search needs
+
+store-requires-3 : tie.Need-store-requires-3
+store-requires-3 c κs = search needs
+
+same-length : tie.Need-same-length
+same-length c = search needs
+
+returns : tie.Need-returns
+unfolding storeAt
+returns c =
+    c .before .before .store3 .ensures
+    ∙ rw (c .before .before .before .before .before .before .store2 .ensures, c .before .before .before .before .before .before .before .before .before .before .store .ensures)
+
+pub write-spec : {M : Type 1} → statement M
+write-spec =
+    tie.close (tie.spec store-requires store-requires-2 store-requires-3 same-length returns)

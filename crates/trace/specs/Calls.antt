@@ -1,0 +1,43 @@
+-- The calls of a list (document 01, 'The trace'), what a call leaves, and runs of lists of calls.
+-- Assumes nothing.
+use mathlib.Core.List.{List, [], _∷_}
+use Prim.Native.Nat.{ℕ}
+use Rattle.codes.specs.Answer.{Answer, accepted, refused}
+
+-- a call with its numbers
+pub data Call : Type 0 where
+  -- slot, step, reading
+  put : ℕ → ℕ → ℕ → Call
+  -- slot, position
+  flip : ℕ → ℕ → Call
+  mark : ℕ → ℕ → Call
+  -- slot
+  clear : ℕ → Call
+  read : ℕ → Call
+  survey : Call
+
+-- a call's answer, and the state that it leaves: a buffer's bytes, or a plain trace
+pub record After (S : Type 0) : Type 0 where
+  pub answer : Answer
+  pub state : S
+
+abbrev pub after : {S : Type 0} → Answer → S → After S
+after a s = record { answer = a; state = s }
+
+-- 'Refused calls change nothing': a call's answer, the state where it is accepted, and the state before
+abbrev pub settle : {S : Type 0} → Answer → S → S → After S
+settle (accepted vs) new old = after (accepted vs) new
+settle (refused n) new old = after (refused n) old
+
+-- the answers to a list of calls, and the state at its end: 'Each call gets the buffer as the call before it, accepted or refused, left it'
+pub record Run (S : Type 0) : Type 0 where
+  pub answers : List Answer
+  pub state : S
+
+unfoldable pub run : {S : Type 0} → (Call → S → After S) → List Call → S → Run S
+run step [] s = record { answers = []; state = s }
+run step (c ∷ cs) s =
+    record {
+      answers = step c s .answer ∷ run step cs (step c s .state) .answers;
+      state = run step cs (step c s .state) .state;
+    }

@@ -1,0 +1,9 @@
+pub mod Layout
+pub mod Calls
+pub mod Refusals
+pub mod Survey
+pub mod Trace
+pub mod Plain
+pub mod Answers
+pub mod Found
+pub mod Claims

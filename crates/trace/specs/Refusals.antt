@@ -1,0 +1,51 @@
+-- The rows of document 01's table 'Refusals by what comes back' that trace calls have. Each says when it is met, from numbers alone;
+-- refusal 1 is the codes' own row. The calls' tables stand with the calls.
+-- Assumes nothing.
+use mathlib.Core.Bool.{Bool, not, _&&_, _||_}
+use Prim.Native.Nat.{ℕ, _*_, _^_}
+use lib.Dec.{leb, ltb, eqb}
+use Rattle.codes.specs.Answer.{Row}
+use Rattle.codes.specs.Projection.{Projection, width}
+use Rattle.codes.specs.Codes.{isCode, stepLimit}
+
+abbrev pub isCount : ℕ → Bool
+isCount n = leb 1 n && leb n 4000
+
+-- 'N not 1 to 4,000'
+abbrev pub wrongCount : ℕ → Row
+wrongCount n = record { number = 6; met = not (isCount n) }
+
+-- 'buffer under 8 bytes; making: under 11·N + 8': a length under a size
+abbrev pub tooShort : ℕ → ℕ → Row
+tooShort length size = record { number = 7; met = ltb length size }
+
+-- 'edition, code, N or distance unfit, or distance beyond the bytes before the trailer'
+unfoldable pub isFit : ℕ → ℕ → ℕ → ℕ → ℕ → Bool
+isFit before distance n code edition = eqb edition 1 && (isCode code && (isCount n && (eqb distance (11 * n) && leb distance before)))
+
+abbrev pub trailerUnfit : ℕ → ℕ → ℕ → ℕ → ℕ → Row
+trailerUnfit before distance n code edition = record { number = 8; met = not (isFit before distance n code edition) }
+
+-- 'slot N or more'
+abbrev pub noSlot : ℕ → ℕ → Row
+noSlot n slot = record { number = 9; met = leb n slot }
+
+-- 'named slot has another state, a set unused bit, or is blank and not zero'
+unfoldable pub isBad : Projection → ℕ → ℕ → ℕ → Bool
+isBad π state word marks =
+    leb 2 state || (leb (2 ^ width π) word || (leb (2 ^ width π) marks || (eqb state 0 && not (eqb word 0 && eqb marks 0))))
+
+abbrev pub badSlot : Projection → ℕ → ℕ → ℕ → Row
+badSlot π state word marks = record { number = 10; met = isBad π state word marks }
+
+-- 'slot blank'
+abbrev pub blankSlot : ℕ → Row
+blankSlot state = record { number = 11; met = eqb state 0 }
+
+-- 'position not in the word'
+abbrev pub noPosition : Projection → ℕ → Row
+noPosition π position = record { number = 12; met = leb (width π) position }
+
+-- 'step or reading too large': 'the reading is 0 to 4095'
+abbrev pub tooLarge : Projection → ℕ → ℕ → Row
+tooLarge π step reading = record { number = 13; met = leb (stepLimit π) step || leb 4096 reading }

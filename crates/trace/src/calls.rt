@@ -1,0 +1,74 @@
+// The trace calls but the survey. Each takes any buffer and any numbers; a refused call changes no byte.
+use crate::answer::Done;
+use crate::answer::ReadAnswer;
+use crate::answer::Refusal;
+use crate::change::Change;
+use crate::change::change_slot;
+use crate::layout::Found;
+use crate::layout::SLOT;
+use crate::layout::TRAILER;
+use crate::layout::find;
+use crate::layout::is_count;
+use crate::layout::lay;
+use crate::slot::read_at;
+use codes::Code;
+use codes::CodeFound;
+ghost use mathlib.Core.Path.{_≡_};
+ghost use Rattle.trace.specs.Calls.{after, put, flip, mark, clear, read};
+ghost use Rattle.trace.specs.Trace.{onBytes, make};
+ghost use Rattle.trace.specs.Answers.{doneAnswer, readAnswer};
+
+// Makes a trace of blank slots at the buffer's end. Refusals 1, 6 and 7.
+pub fn make(b: &mut [u8], code: u64, slots: u64) -> Done
+    ensures { λ r. ⌜ after (doneAnswer r) (now (b .exit)) ≡ make code slots (now (b .entry)) ⌝ }
+{
+    let CodeFound::Code(_) = Code::from_number(code) else {
+        return Done::Refused(Refusal::UnknownCode);
+    };
+    if !is_count(slots) {
+        return Done::Refused(Refusal::WrongCount);
+    }
+    if b.len() < SLOT * slots as usize + TRAILER {
+        return Done::Refused(Refusal::BufferShort);
+    }
+    lay(b, code, slots);
+    Done::Accepted
+}
+
+// Writes a step and a reading into a slot. Refusals 7, 8, 9 and 13.
+pub fn put(b: &mut [u8], slot: u64, step: u64, reading: u64) -> Done
+    ensures { λ r. ⌜ after (doneAnswer r) (now (b .exit)) ≡ onBytes (put slot step reading) (now (b .entry)) ⌝ }
+{
+    change_slot(b, slot, Change::Put(step, reading))
+}
+
+// Inverts a stored bit. Refusals 7 to 12.
+pub fn flip(b: &mut [u8], slot: u64, position: u64) -> Done
+    ensures { λ r. ⌜ after (doneAnswer r) (now (b .exit)) ≡ onBytes (flip slot position) (now (b .entry)) ⌝ }
+{
+    change_slot(b, slot, Change::Flip(position))
+}
+
+// Marks a stored bit. Refusals 7 to 12.
+pub fn mark(b: &mut [u8], slot: u64, position: u64) -> Done
+    ensures { λ r. ⌜ after (doneAnswer r) (now (b .exit)) ≡ onBytes (mark slot position) (now (b .entry)) ⌝ }
+{
+    change_slot(b, slot, Change::Mark(position))
+}
+
+// Blanks a slot. Refusals 7, 8 and 9.
+pub fn clear(b: &mut [u8], slot: u64) -> Done
+    ensures { λ r. ⌜ after (doneAnswer r) (now (b .exit)) ≡ onBytes (clear slot) (now (b .entry)) ⌝ }
+{
+    change_slot(b, slot, Change::Clear)
+}
+
+// Mends a slot. Refusals 7 to 11, then 5.
+pub fn read(b: &[u8], slot: u64) -> ReadAnswer
+    ensures { λ r. ⌜ after (readAnswer r) (now (b .entry)) ≡ onBytes (read slot) (now (b .entry)) ⌝ }
+{
+    match find(b, slot) {
+        Found::Refused(r) => ReadAnswer::Refused(r),
+        Found::At(place, code) => read_at(b, place, code),
+    }
+}
