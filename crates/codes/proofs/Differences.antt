@@ -106,9 +106,9 @@ names π s e = leb 4 e && (ltb (e / 4 - 1) (size π) && (not (isZero (symbolOf (
 
 -- the tests of a code's table
 pub record Tabled (π : Projection) : Type 0 where
-  pub nonzero : T (below 256 (λ s. eqb s 0 || settles (π .matrix) 0 (digits symbols (π .rows) s) false))
-  pub unnamed : T (below 256 (λ s. (eqb s 0 || not (eqb (entry π s) 0)) || settles (π .matrix) 1 (digits symbols (π .rows) s) false))
-  pub named : T (below 256 (λ s. eqb (entry π s) 0 || names π s (entry π s)))
+  pub nonzero : T (below (4 ^ π .rows) (λ s. eqb s 0 || settles (π .matrix) 0 (digits symbols (π .rows) s) false))
+  pub unnamed : T (below (4 ^ π .rows) (λ s. (eqb s 0 || not (eqb (entry π s) 0)) || settles (π .matrix) 1 (digits symbols (π .rows) s) false))
+  pub named : T (below (4 ^ π .rows) (λ s. eqb (entry π s) 0 || names π s (entry π s)))
 
 pub record Named (π : Projection) (s e : ℕ) : Type 0 where
   pub from : 4 ≤ e
@@ -116,16 +116,16 @@ pub record Named (π : Projection) (s e : ℕ) : Type 0 where
   pub scaling : not (isZero (symbolOf (e % 4))) ≡ true
   pub made : makes π e ≡ s
 
-tested : (f g : ℕ → Bool) → T (below 256 (λ s. f s || g s)) → (s : ℕ) → s < 256 → f s ≡ false → T (g s)
-tested f g t s h e = subst (λ (b : Bool). T (b || g s)) e (at-below 256 (λ s. f s || g s) t s h)
+tested : (n : ℕ) (f g : ℕ → Bool) → T (below n (λ s. f s || g s)) → (s : ℕ) → s < n → f s ≡ false → T (g s)
+tested n f g t s h e = subst (λ (b : Bool). T (b || g s)) e (at-below n (λ s. f s || g s) t s h)
 
-module _ (π : Projection) (tabled : Tabled π) (s : ℕ) (small : s < 256) where
+module _ (π : Projection) (tabled : Tabled π) (s : ℕ) (small : s < 4 ^ π .rows) where
   pub zero-live : (s ≡ 0 → ⊥) → T (settles (π .matrix) 0 (digits symbols (π .rows) s) false)
-  zero-live n = tested (λ s. eqb s 0) (λ s. settles (π .matrix) 0 (digits symbols (π .rows) s) false) (tabled .nonzero) s small (ne-eqb s 0 n)
+  zero-live n = tested (4 ^ π .rows) (λ s. eqb s 0) (λ s. settles (π .matrix) 0 (digits symbols (π .rows) s) false) (tabled .nonzero) s small (ne-eqb s 0 n)
 
   pub one-live : (s ≡ 0 → ⊥) → entry π s ≡ 0 → T (settles (π .matrix) 1 (digits symbols (π .rows) s) false)
   one-live n e =
-      tested (λ s. eqb s 0 || not (eqb (entry π s) 0)) (λ s. settles (π .matrix) 1 (digits symbols (π .rows) s) false) (tabled .unnamed) s small
+      tested (4 ^ π .rows) (λ s. eqb s 0 || not (eqb (entry π s) 0)) (λ s. settles (π .matrix) 1 (digits symbols (π .rows) s) false) (tabled .unnamed) s small
       (ap₂ (λ (a b : Bool). a || not b) (ne-eqb s 0 n) (eq-eqb (entry π s) 0 e))
 
   pub entry-names : (entry π s ≡ 0 → ⊥) → Named π s (entry π s)
@@ -134,7 +134,7 @@ module _ (π : Projection) (tabled : Tabled π) (s : ℕ) (small : s < 256) wher
       let b = ltb (e / 4 - 1) (size π) in
       let c = not (isZero (symbolOf (e % 4))) in
       let d = eqb (makes π e) s in
-      let t = tested (λ s. eqb (entry π s) 0) (λ s. names π s (entry π s)) (tabled .named) s small (ne-eqb e 0 n) in
+      let t = tested (4 ^ π .rows) (λ s. eqb (entry π s) 0) (λ s. names π s (entry π s)) (tabled .named) s small (ne-eqb e 0 n) in
       let u = and-right (leb 4 e) (b && (c && d)) t in
       let v = and-right b (c && d) u in
       record {

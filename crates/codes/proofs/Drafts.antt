@@ -2,7 +2,7 @@
 -- digit of the message or of the syndrome, by the number of such columns behind it, and its top bit is the next of the message's.
 -- Assumes nothing.
 use mathlib.Core.Path.{_≡_, refl, sym, ap, ap₂, _∙_, subst}
-use mathlib.Core.Bool.{Bool, true, false, not, cond}
+use mathlib.Core.Bool.{Bool, true, false, not}
 use mathlib.Core.List.{List, [], _∷_, _++_, map, map-append}
 use Prim.Native.Nat.{ℕ, zero, suc, _+_, _-_, _*_, _/_, _%_, _^_, _≤_, _<_}
 use native.Mathlib.Nat.{div-div-eq-div-mul, div-one}
@@ -12,7 +12,7 @@ use lib.ListN.{length, getD, take, drop, set, length-drop, drop-of-length-le}
 use lib.Pow.{pow-add}
 use lib.Seq.{drop-cons, take-suc-set}
 use Rattle.symbols.specs.Symbol.{_⊻_, Symbol, bit, symbolOf}
-use Rattle.symbols.specs.Column.{Column, value, one, columnOf, columnWith}
+use Rattle.symbols.specs.Column.{Column, value, columnOf, columnWith}
 use Rattle.symbols.proofs.Numbers.{symbol-mod}
 use Rattle.codes.specs.Digits.{bits, symbols, digits}
 use Rattle.codes.specs.Projection.{Projection, wanted, count, size, topBits, messageBits}
@@ -41,13 +41,6 @@ module _ (l : List Bool) (i : ℕ) (h : i < length l) where
 
   pub value-other : (x s : ℕ) → getD l i false ≡ false → valueAt (drop i l) x s ≡ symbolOf (s / 4 ^ count (map not (drop (suc i) l)))
   value-other x s e = ap (λ (k : List Bool). valueAt k x s) (drop-cons l i false h ∙ ap (λ (b : Bool). b ∷ drop (suc i) l) e)
-
-  pub count-from : count (drop i l) ≡ one (getD l i false) + count (drop (suc i) l)
-  count-from = ap count (drop-cons l i false h) ∙ go (getD l i false)
-    where
-      go : (b : Bool) → count (b ∷ drop (suc i) l) ≡ one b + count (drop (suc i) l)
-      go true = omega arith
-      go false = omega arith
 
   -- the values from column i on
   pub place-from : (x s : ℕ) →

@@ -74,7 +74,7 @@ pub sought-word : {π : Projection} {test : List Column → Bool} {k x y : ℕ} 
 sought-word code w = sought-one _ w (lt-of-lt-of-le (w .fits) (pow-mono (code .narrow)))
 
 -- no codeword is close, by the syndrome alone
-pub hopeless : (π : Projection) → Searchable π → (k s : ℕ) → s < 256 → k ≤ 1 → (s ≡ 0 → ⊥) → entry π s ≡ 0 → Hopeless π k s
+pub hopeless : (π : Projection) → Searchable π → (k s : ℕ) → s < 4 ^ π .rows → k ≤ 1 → (s ≡ 0 → ⊥) → entry π s ≡ 0 → Hopeless π k s
 hopeless π code k s h l n e x y ex zy d =
     none-close π 1 (digits symbols (π .rows) s) (one-live π (code .tabled) s h n e) (word π x) (word π y) ex zy (long π x) (long π y) (omega arith)
 
@@ -143,10 +143,10 @@ module _ {π : Projection} {p : Bool} {s : ℕ} {off : Bool} {x : ℕ} (known : 
       none-even π l (digits symbols (π .rows) s) t (word π x) (word π y) (known .syndromes) (codeword-parts π p (word π y) (w .passes) .zero)
       (long π x) (long π y) (even y w) (omega (arith, w .close))
 
-  pub settle-few : Searchable π → s < 256 → (s ≡ 0 → ⊥) → k < 2 → (y : ℕ) → Within π (isCodewordOf π p) k x y → ⊥
+  pub settle-few : Searchable π → s < 4 ^ π .rows → (s ≡ 0 → ⊥) → k < 2 → (y : ℕ) → Within π (isCodewordOf π p) k x y → ⊥
   settle-few code h n l = few 0 (zero-live π (code .tabled) s h n) (omega arith)
 
-  pub settle-none : Searchable π → s < 256 → (s ≡ 0 → ⊥) → entry π s ≡ 0 → k ≤ 3 → (y : ℕ) → Within π (isCodewordOf π p) k x y → ⊥
+  pub settle-none : Searchable π → s < 4 ^ π .rows → (s ≡ 0 → ⊥) → entry π s ≡ 0 → k ≤ 3 → (y : ℕ) → Within π (isCodewordOf π p) k x y → ⊥
   settle-none code h n e l = few 1 (one-live π (code .tabled) s h n e) (omega arith)
 
 -- the two bits of the column that the entry names

@@ -1,4 +1,5 @@
 -- The four codes can be searched: the tests of each matrix and its table of entries, whatever the rule. Assumes nothing.
+use Prim.Native.Nat.{ℕ, _^_, _<_}
 use Rattle.codes.specs.declared.code.Code.{Code}
 use Rattle.codes.specs.declared.code.Code.the-variants.{O36, E36, O40, E40}
 use Rattle.codes.specs.Projection.{TopRule, ruleO, ruleE, nine, ten}
@@ -21,3 +22,10 @@ tabled E40 = ten-tabled ruleE
 
 pub searchable : (c : Code) → Searchable (projection c)
 searchable c = record { apart = apart c; shape = systematic c .shape; tabled = tabled c; narrow = width-le c }
+
+-- a packed syndrome of four rows is a byte
+pub packed-lt : (c : Code) {s : ℕ} → s < 256 → s < 4 ^ projection c .rows
+packed-lt O36 h = h
+packed-lt E36 h = h
+packed-lt O40 h = h
+packed-lt E40 h = h

@@ -16,6 +16,7 @@ use Rattle.symbols.specs.Symbol.{_⊻_, Symbol, symbolOf}
 use Rattle.symbols.specs.Column.{Column, value, parity, top, one, columnOf}
 use Rattle.symbols.proofs.Every.{bits, _⊗_, law}
 use Rattle.symbols.proofs.Symbols.{xor-comm}
+use Rattle.symbols.proofs.Columns.{one-le}
 use Rattle.codes.specs.Digits.{symbols, digits, numberOf}
 use Rattle.codes.specs.Vector.{zeros, addV, scale}
 use Rattle.codes.specs.Projection.{Projection, size, count}
@@ -24,6 +25,7 @@ use Rattle.codes.specs.Walk.{held, odds, Walked}
 use Rattle.codes.proofs.Digits.{symbols-fit, digits-again}
 use Rattle.codes.proofs.Vectors.{addV-comm, shaped, length-scale}
 use Rattle.codes.proofs.Words.{length-map}
+use Rattle.codes.proofs.Distance.{count-cons}
 use Rattle.codes.proofs.Sums.{digits-add}
 
 pub digits-zero : (r : ℕ) → digits symbols r 0 ≡ zeros r
@@ -38,10 +40,6 @@ walked-none r = record { syndromes = digits-zero r; tops = refl; odd = refl }
 pub xor-code : (a b : Bool) → not (Bool·beq a b) ≡ a ⊻ b
 xor-code a b = law (bits ⊗ bits) Bool-discrete (λ (a, b). not (Bool·beq a b)) (λ (a, b). a ⊻ b) tt (a, b)
 
-count-cons : (b : Bool) (l : List Bool) (n : ℕ) → n ≡ count l → n + one b ≡ count (b ∷ l)
-count-cons true l n e = omega arith
-count-cons false l n e = omega arith
-
 -- one column more in front
 pub walked-more : (r : ℕ) (h : List Symbol) (H : List (List Symbol)) (c : Column) (cs : List Column) (s : ℕ) (t : Bool) (n g : ℕ) →
     length h ≡ r → g ≡ numberOf symbols (scale (value c) h) → Walked r H cs s t n →
@@ -53,7 +51,7 @@ walked-more r h H c cs s t n g eh eg w =
           ∙ ap₂ addV (w .syndromes) (ap (digits symbols r) eg ∙ digits-again symbols symbols-fit r (scale (value c) h) (length-scale (value c) h ∙ eh))
           ∙ addV-comm (syndrome r H (map value cs)) (scale (value c) h);
       tops = xor-code t (top c) ∙ ap (λ (b : Bool). b ⊻ top c) (w .tops) ∙ xor-comm (topRow cs) (top c);
-      odd = count-cons (parity c) (map parity cs) n (w .odd);
+      odd = omega (arith, w .odd, count-cons (parity c) (map parity cs));
     }
 
 pub shaped-at : (r : ℕ) (H : List (List Symbol)) (j : ℕ) → shaped r H ≡ true → j < length H → length (getD H j []) ≡ r
@@ -88,8 +86,4 @@ module _ (π : Projection) (shape : shaped (π .rows) (π .matrix) ≡ true) (a 
 
 pub odds-le : (cs : List Column) → odds cs ≤ length cs
 odds-le [] = omega arith
-odds-le (c ∷ cs) = go (parity c) (odds-le cs)
-  where
-    go : (b : Bool) → odds cs ≤ length cs → count (b ∷ map parity cs) ≤ suc (length cs)
-    go true h = omega arith
-    go false h = omega arith
+odds-le (c ∷ cs) = omega (arith, odds-le cs, one-le (parity c), count-cons (parity c) (map parity cs))

@@ -8,7 +8,7 @@ use borrow.Author.Tests.{eqb-true}
 use Rattle.codes.specs.Codes.{projection}
 use Rattle.codes.proofs.Differences.{entry-at}
 use Rattle.codes.proofs.Searches.{hopeless}
-use Rattle.codes.proofs.Tables.{searchable}
+use Rattle.codes.proofs.Tables.{searchable, packed-lt}
 use Rattle.codes.proofs.search.hopeless.Statement.{statement}
 use Rattle.codes.proofs.search.hopeless.Tie as tie
 
@@ -24,7 +24,7 @@ element-copy-out-result c = search needs
 returns-3 : tie.Need-returns-3
 returns-3 c =
     let a = c .before .before .before .args in
-    λ e. hopeless (projection (a .code)) (searchable (a .code)) (a .k) (a .s) (omega arith) (omega arith) (c .before .if2 .left)
+    λ e. hopeless (projection (a .code)) (searchable (a .code)) (a .k) (a .s) (packed-lt (a .code) (omega arith)) (omega arith) (c .before .if2 .left)
     (sym (entry-at (projection (a .code)) (a .table .now) (a .s) (c .before .before .before .pre) (omega arith)) ∙ eqb-true _ 0 e)
 
 pub hopeless-spec : {M : Type 1} → statement M

@@ -17,7 +17,7 @@ use Rattle.codes.specs.Search.{entryTable, Within, Sought}
 use Rattle.codes.proofs.Codes.{size-le}
 use Rattle.codes.proofs.Differences.{Named, entry-at, entry-names}
 use Rattle.codes.proofs.Searches.{sought-none, sought-word, settle-here, settle-off, settle-few, settle-none, settle-pair}
-use Rattle.codes.proofs.Tables.{searchable}
+use Rattle.codes.proofs.Tables.{searchable, packed-lt}
 use Rattle.codes.proofs.search.settle.Statement.{statement}
 use Rattle.codes.proofs.search.settle.Tie as tie
 use Rattle.codes.proofs.search.settle.Reads as reads
@@ -38,7 +38,7 @@ returns-2 c =
 returns-3 : tie.Need-returns-3
 returns-3 c =
     let s = c .before .before in
-    λ p known par. sought-none (settle-few known par (s .args .k) (searchable (s .args .code)) (omega arith) (c .before .if1 .left) (c .if3 .taken))
+    λ p known par. sought-none (settle-few known par (s .args .k) (searchable (s .args .code)) (packed-lt (s .args .code) (omega arith)) (c .before .if1 .left) (c .if3 .taken))
 
 element-copy-out-entry : tie.Need-element-copy-out-entry
 element-copy-out-entry c = search needs
@@ -47,13 +47,13 @@ returns-4 : tie.Need-returns-4
 returns-4 c =
     let s = c .before .before .before .before in
     let none = sym (entry-at (projection (s .args .code)) (s .args .table .now) (s .args .s) (s .pre .0) (omega arith)) ∙ c .if4 .taken in
-    λ p known par. sought-none (settle-none known par (s .args .k) (searchable (s .args .code)) (omega arith) (c .before .before .before .if1 .left) none (s .pre .1))
+    λ p known par. sought-none (settle-none known par (s .args .k) (searchable (s .args .code)) (packed-lt (s .args .code) (omega arith)) (c .before .before .before .if1 .left) none (s .pre .1))
 
 -- what the entry that was read names
 read : (code : Code) (l : List ℕ) (s : ℕ) → l ≡ entryTable (projection code) → s < 256 → (getD l s 0 ≡ 0 → ⊥) → Named (projection code) s (getD l s 0)
 read code l s e h n =
     let at = entry-at (projection code) l s e h in
-    subst (Named (projection code) s) (sym at) (entry-names (projection code) (searchable code .tabled) s h (λ z. n (at ∙ z)))
+    subst (Named (projection code) s) (sym at) (entry-names (projection code) (searchable code .tabled) s (packed-lt code h) (λ z. n (at ∙ z)))
 
 column-with-requires : tie.Need-column-with-requires
 column-with-requires c κs = search needs
