@@ -1,14 +1,31 @@
--- A change of a slot in a buffer is the change at the slot's place, once the slot is found.
+-- A put at a slot's place; and a change of a slot in a buffer is the change at the slot's place, once the slot is found.
 -- Assumes nothing.
-use Prim.Native.Nat.{ℕ}
+use Prim.Native.Nat.{ℕ, _<_, _≤_}
 use mathlib.Core.Path.{_≡_, refl}
 use mathlib.Core.List.{List, []}
+use borrow.Author.Tests.{le-leb, lt-leb}
 use Rattle.codes.specs.Answer.{accepted, refused, unless}
+use Rattle.codes.specs.Projection.{Projection}
+use Rattle.codes.specs.Message.{encode}
+use Rattle.codes.specs.Codes.{stepLimit}
+use Rattle.trace.specs.declared.layout.Place.{Place}
 use Rattle.trace.specs.declared.change.Change.{Change}
-use Rattle.trace.specs.Layout.{placeIn}
+use Rattle.trace.specs.Layout.{placeIn, storeAt}
 use Rattle.trace.specs.Calls.{after}
-use Rattle.trace.specs.Trace.{projectionIn, refusals, gives, leaves, onBytes}
+use Rattle.trace.specs.Trace.{projectionIn, messageOf, refusals, gives, leaves, onBytes}
 use Rattle.trace.specs.Found.{Passes, Refuses, slotRows, callOf, changeRows, changed, changeAt}
+
+-- a put, test by test
+module _ (π : Projection) (p : Place) (step reading : ℕ) (b : List ℕ) where
+  pub step-large : stepLimit π ≤ step → after (refused 13) b ≡ changeAt π p (Change.Put step reading) b
+  step-large h = simp (le-leb _ _ h)
+
+  pub reading-large : step < stepLimit π → 4096 ≤ reading → after (refused 13) b ≡ changeAt π p (Change.Put step reading) b
+  reading-large hs hr = simp (lt-leb _ _ hs, le-leb _ _ hr)
+
+  pub put-fits : step < stepLimit π → reading < 4096 → (w : ℕ) → w ≡ encode π (messageOf step reading) → (b′ : List ℕ) → b′ ≡ storeAt b p 1 w 0
+      → after (accepted []) b′ ≡ changeAt π p (Change.Put step reading) b
+  put-fits hs hr w ew b′ eb = simp (lt-leb _ _ hs, lt-leb _ _ hr, eb, ew)
 
 module _ (b : List ℕ) (slot : ℕ) where
   -- the refusals of a change are its slot's and then its own

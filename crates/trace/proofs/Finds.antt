@@ -1,19 +1,49 @@
 -- How a call comes to its slot: what the trailer's numbers say of the buffer, and what an opened buffer says of a slot. Each refusal that
 -- is passed leaves the rows after it.
 -- Assumes nothing.
-use Prim.Native.Nat.{ℕ, _<_, _≤_}
+use Prim.Native.Nat.{ℕ, _*_, _<_, _≤_}
 use mathlib.Core.Path.{_≡_, _∙_}
+use mathlib.Core.Bool.{true, false}
 use mathlib.Core.List.{List, [], _∷_}
 use native.Mathlib.Omega.{arith}
 use lib.ListN.{length}
-use borrow.Author.Tests.{le-ltb, le-leb, lt-leb}
+use borrow.Author.Tests.{le-ltb, le-leb, lt-leb, eq-eqb, ne-eqb}
 use Rattle.codes.specs.Answer.{unless}
+use Rattle.codes.specs.Codes.{isCode}
 use Rattle.trace.specs.declared.layout.Place.{Place}
 use Rattle.trace.specs.declared.layout.Header.{Header}
 use Rattle.trace.specs.declared.layout.Opened.{Opened}
 use Rattle.trace.specs.Layout.{trailerAt, distanceIn, countIn, codeIn, editionIn, placeFrom}
+use Rattle.trace.specs.Refusals.{isCount, isFit}
 use Rattle.trace.specs.Trace.{absent}
 use Rattle.trace.specs.Found.{Refuses, Fitting, openRows, OpenedAs, Opening, Room, slotRows, FoundAt}
+
+-- a trailer's numbers, test by test
+module _ (before distance n code edition : ℕ) where
+  pub unfit-edition : (edition ≡ 1 → ⊥) → isFit before distance n code edition ≡ false
+  unfolding isFit
+  unfit-edition e = simp (ne-eqb _ _ e)
+
+  pub unfit-code : edition ≡ 1 → isCode code ≡ false → isFit before distance n code edition ≡ false
+  unfolding isFit
+  unfit-code e c = simp (eq-eqb _ _ e, c)
+
+  pub unfit-count : edition ≡ 1 → isCode code ≡ true → isCount n ≡ false → isFit before distance n code edition ≡ false
+  unfolding isFit
+  unfit-count e c k = simp (eq-eqb _ _ e, c, k)
+
+  module _ (e : edition ≡ 1) (c : isCode code ≡ true) (k : isCount n ≡ true) where
+    pub unfit-distance : (distance ≡ 11 * n → ⊥) → isFit before distance n code edition ≡ false
+    unfolding isFit
+    unfit-distance d = simp (eq-eqb _ _ e, c, k, ne-eqb _ _ d)
+
+    pub unfit-beyond : distance ≡ 11 * n → before < distance → isFit before distance n code edition ≡ false
+    unfolding isFit
+    unfit-beyond d h = simp (eq-eqb _ _ e, c, k, eq-eqb _ _ d, lt-leb _ _ h)
+
+    pub fits : distance ≡ 11 * n → distance ≤ before → isFit before distance n code edition ≡ true
+    unfolding isFit
+    fits d h = simp (eq-eqb _ _ e, c, k, eq-eqb _ _ d, le-leb _ _ h)
 
 pub opening : (b : List ℕ) → 8 ≤ length b → (r : Opened) → Fitting (trailerAt b) (distanceIn b) (countIn b) (codeIn b) (editionIn b) r → Opening b r
 opening b long (Opened.Fit h) f =

@@ -3,6 +3,7 @@ pub mod Overwriting
 pub mod Settling
 pub mod Known
 pub mod Finds
+pub mod Contents
 pub mod Layouts
 pub mod Mends
 pub mod Changes
@@ -12,8 +13,8 @@ pub mod Xor
 pub mod Stored
 pub mod Refinement
 pub mod Making
+pub mod Demand2
 pub mod Demand3
 pub mod Demand1
-pub mod Demand2
 pub mod Sets
 pub mod Surveys

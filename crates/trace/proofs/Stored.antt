@@ -17,7 +17,7 @@ use borrow.Author.Tests.{le-ltb, lt-leb, le-leb, eq-eqb, leb-true}
 use Rattle.codes.specs.declared.code.Code.{Code}
 use Rattle.codes.specs.Projection.{Projection, width, messageBits}
 use Rattle.codes.specs.Message.{encode}
-use Rattle.codes.specs.Codes.{isCode, codeOf, projection}
+use Rattle.codes.specs.Codes.{codes, isCode, codeOf, projection}
 use Rattle.codes.proofs.Laws.{width-le, encode-lt}
 use Rattle.trace.specs.Layout.{bytesOf, numberAt, trailer, trailerAt, distanceIn, countIn, codeIn, editionIn, slotBytes, placeFrom, placeIn, stateAt, wordAt, marksAt, storeAt}
 use Rattle.trace.specs.Refusals.{isCount, isFit, isBad}
@@ -51,7 +51,7 @@ length-slots π (s ∷ ss) = simp (length-append, length-slot, length-slots π s
 number-in : (b pre post : List ℕ) (k v at : ℕ) → b ≡ pre ++ (bytesOf k v ++ post) → length pre ≡ at → v < 256 ^ k → numberAt b at k ≡ v
 number-in b pre post k v at e l h = rw e (number-middle pre post k v at l h)
 
-module _ (front : List ℕ) (code n : ℕ) (code-fits : code ≤ 4) (few : n ≤ 4000) where
+module _ (front : List ℕ) (code n : ℕ) (code-fits : code < 256) (few : n ≤ 4000) where
   ended-at : trailerAt (front ++ trailer code n) ≡ length front
   ended-at = simp (length-append, length-trailer) (omega arith)
 
@@ -94,8 +94,8 @@ pub record Sound (p : Plain) : Type 0 where
   pub count : isCount (length (p .slots)) ≡ true
   pub slots : (i : ℕ) → Fits (projectionOf p) (slotOf p i)
 
-code-le : (n : ℕ) → isCode n ≡ true → n ≤ 4
-code-le n e = leb-true n 4 (and-true (leb 1 n) (leb n 4) e .1)
+code-lt : (n : ℕ) → isCode n ≡ true → n < 256
+code-lt n e = let few = leb-true n (length codes) (and-true (leb 1 n) (leb n (length codes)) e .1) in omega arith
 
 module _ (p : Plain) (s : Sound p) where
   front : List ℕ
@@ -113,19 +113,19 @@ module _ (p : Plain) (s : Sound p) where
   length-front = simp (length-append, length-slots)
 
   trailer-place : trailerAt (bytes p) ≡ length (p .free) + 11 * length (p .slots)
-  trailer-place = rw bytes-ended (ended-at front (p .code) (length (p .slots)) (code-le _ (s .code)) few ∙ length-front)
+  trailer-place = rw bytes-ended (ended-at front (p .code) (length (p .slots)) (code-lt _ (s .code)) few ∙ length-front)
 
   distance-in : distanceIn (bytes p) ≡ 11 * length (p .slots)
-  distance-in = rw bytes-ended (ended-distance front (p .code) (length (p .slots)) (code-le _ (s .code)) few)
+  distance-in = rw bytes-ended (ended-distance front (p .code) (length (p .slots)) (code-lt _ (s .code)) few)
 
   pub count-in : countIn (bytes p) ≡ length (p .slots)
-  count-in = rw bytes-ended (ended-count front (p .code) (length (p .slots)) (code-le _ (s .code)) few)
+  count-in = rw bytes-ended (ended-count front (p .code) (length (p .slots)) (code-lt _ (s .code)) few)
 
   code-in : codeIn (bytes p) ≡ p .code
-  code-in = rw bytes-ended (ended-code front (p .code) (length (p .slots)) (code-le _ (s .code)) few)
+  code-in = rw bytes-ended (ended-code front (p .code) (length (p .slots)) (code-lt _ (s .code)) few)
 
   edition-in : editionIn (bytes p) ≡ 1
-  edition-in = rw bytes-ended (ended-edition front (p .code) (length (p .slots)) (code-le _ (s .code)) few)
+  edition-in = rw bytes-ended (ended-edition front (p .code) (length (p .slots)) (code-lt _ (s .code)) few)
 
   pub projection-in : projectionIn (bytes p) ≡ projectionOf p
   projection-in = ap (λ (n : ℕ). projection (codeOf n)) code-in

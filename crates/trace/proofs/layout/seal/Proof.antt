@@ -35,9 +35,10 @@ same-length c = search needs
 
 returns : tie.Need-returns
 returns c =
-    c .before .before .store4 .ensures
-    ∙ rw (c .before .before .before .before .before .before .store3 .ensures, c .before .before .before .before .before .before .before .before .before .before .store2 .ensures, c .before .before .before .before .before .before .before .before .before .before .before .before .before .before .store .ensures)
-    (sealed _ _ _ _ (c .before .before .before .before .before .before .before .before .before .before .before .before .before .before .before .before .before .pre .0))
+    let first = c .before .before .before .before .before .before .before .before .before .before .before .before .before .before in
+    let second = c .before .before .before .before .before .before .before .before .before .before in
+    let third = c .before .before .before .before .before .before in
+    c .before .before .store4 .ensures ∙ rw (third .store3 .ensures, second .store2 .ensures, first .store .ensures) (sealed _ _ _ _ (first .before .before .before .pre .0))
 
 pub seal-spec : {M : Type 1} → statement M
 seal-spec =

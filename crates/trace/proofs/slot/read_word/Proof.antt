@@ -20,14 +20,14 @@ enum-told c = search needs
 returns : tie.Need-returns
 returns c =
     let a = c .before .before .before .args in
-    read-none (mend (projection (a .code)) (a .word) (a .marks)) _
-    ((rw (c .enum-told .given .1) at (c .before .before .correct .ensures)) ∙ mending-fit (projection (a .code)) (a .word) (a .marks) (c .before .before .before .pre .0) (c .before .before .before .pre .1))
+    let fit = mending-fit (projection (a .code)) (a .word) (a .marks) (c .before .before .before .pre .0) (c .before .before .before .pre .1) in
+    read-none (mend (projection (a .code)) (a .word) (a .marks)) _ ((rw (c .enum-told .given .1) at (c .before .before .correct .ensures)) ∙ fit)
 
 returns-2 : tie.Need-returns-2
 returns-2 c =
     let a = c .before .before .before .before .before .before .args in
-    read-near (mend (projection (a .code)) (a .word) (a .marks)) _ _ _ _
-    ((rw (c .before .before .before .c .given .1) at (c .before .before .before .before .before .correct .ensures)) ∙ mending-fit (projection (a .code)) (a .word) (a .marks) (c .before .before .before .before .before .before .pre .0) (c .before .before .before .before .before .before .pre .1))
+    let fit = mending-fit (projection (a .code)) (a .word) (a .marks) (c .before .before .before .before .before .before .pre .0) (c .before .before .before .before .before .before .pre .1) in
+    read-near (mend (projection (a .code)) (a .word) (a .marks)) _ _ _ _ ((rw (c .before .before .before .c .given .1) at (c .before .before .before .before .before .correct .ensures)) ∙ fit)
 
 pub read-word-spec : {M : Type 1} → statement M
 read-word-spec = tie.close (tie.spec correct-requires enum-known-c enum-told returns returns-2)
