@@ -5,7 +5,7 @@ use mathlib.Core.Path.{_≡_, refl}
 use mathlib.Core.List.{[], _∷_}
 use native.Mathlib.Omega.{arith}
 use lib.Pow.{pow-pos}
-use borrow.Author.Tests.{le-leb, lt-leb, eq-eqb, ne-eqb}
+use borrow.Author.Tests.{le-leb, lt-leb, ne-eqb}
 use Rattle.codes.specs.Projection.{Projection, width}
 use Rattle.trace.specs.Refusals.{isBad, badSlot, blankSlot}
 use Rattle.trace.specs.Found.{Refuses, WrittenAs}

@@ -1,0 +1,107 @@
+// Listings of files that are made here: refused ones, the longest one and one byte more, free bytes before the slots, every
+// status under every code, and the most slots.
+use libc::STDOUT_FILENO;
+use trace::Done;
+
+fn text(bytes: &[u8]) {
+    io::write_all(STDOUT_FILENO, bytes);
+}
+
+// Writes a file's listing.
+fn list(file: &[u8]) {
+    let mut out = [0u8; lines::TEXT];
+    let end = lines::list(file, &mut out);
+    io::write_all(STDOUT_FILENO, &out[..end]);
+}
+
+// Says where a call is refused.
+fn done(done: Done) {
+    match done {
+        Done::Accepted => (),
+        Done::Refused(_) => text(b"a call was refused\n"),
+    }
+}
+
+fn refused_files() {
+    text(b"no bytes, seven, and eight that are no trailer\n");
+    let none: [u8; 0] = [];
+    list(&none);
+    let seven = [0u8; 7];
+    list(&seven);
+    let eight = [0u8; 8];
+    list(&eight);
+}
+
+fn longest_file() {
+    text(b"65536 bytes\n");
+    let mut file = [0u8; 65536];
+    done(trace::make(&mut file, 2, 1));
+    list(&file);
+}
+
+fn longer_file() {
+    text(b"65537 bytes\n");
+    let mut file = [0u8; 65537];
+    done(trace::make(&mut file, 2, 1));
+    list(&file);
+}
+
+fn free_bytes() {
+    text(b"nineteen free bytes\n");
+    let mut file = [255u8; 49];
+    done(trace::make(&mut file, 3, 2));
+    done(trace::put(&mut file, 1, 1023, 4094));
+    list(&file);
+}
+
+// A slot of each status, then one with three wrong bits and one with seven marks.
+fn statuses(code: u64, step: u64) {
+    text(b"code ");
+    io::print_decimal(STDOUT_FILENO, code);
+    text(b"\n");
+    let mut file = [0u8; 85];
+    done(trace::make(&mut file, code, 7));
+    done(trace::put(&mut file, 1, step, 4094));
+    done(trace::put(&mut file, 2, step, 4095));
+    done(trace::put(&mut file, 3, 0, 0));
+    done(trace::flip(&mut file, 3, 0));
+    done(trace::flip(&mut file, 3, 1));
+    done(trace::flip(&mut file, 3, 2));
+    done(trace::flip(&mut file, 3, 3));
+    file[44] = 2;
+    done(trace::put(&mut file, 5, 1, 7));
+    done(trace::flip(&mut file, 5, 5));
+    done(trace::flip(&mut file, 5, 6));
+    done(trace::flip(&mut file, 5, 35));
+    done(trace::put(&mut file, 6, 2, 8));
+    done(trace::mark(&mut file, 6, 0));
+    done(trace::mark(&mut file, 6, 5));
+    done(trace::mark(&mut file, 6, 10));
+    done(trace::mark(&mut file, 6, 15));
+    done(trace::mark(&mut file, 6, 20));
+    done(trace::mark(&mut file, 6, 25));
+    done(trace::mark(&mut file, 6, 30));
+    done(trace::flip(&mut file, 6, 30));
+    list(&file);
+}
+
+fn most_slots() {
+    text(b"4000 slots: bytes listed ");
+    let mut file = [0u8; 44008];
+    done(trace::make(&mut file, 4, 4000));
+    let mut out = [0u8; lines::TEXT];
+    io::print_decimal(STDOUT_FILENO, lines::list(&file, &mut out) as u64);
+    text(b"\n");
+}
+
+fn main() {
+    refused_files();
+    longest_file();
+    longer_file();
+    free_bytes();
+    statuses(1, 127);
+    statuses(2, 127);
+    statuses(3, 1023);
+    statuses(4, 1023);
+    most_slots();
+}

@@ -1,0 +1,32 @@
+-- `mizbulett::mizbulett_correct` meets its contract: the refusal's number, or the values.
+-- Assumes nothing.
+use Rattle.codes.specs.Codes.{correctedAnswer}
+use Rattle.mizbulett.proofs.Returning.{told, returns-refused, returns-values}
+use borrow.Author.Needs.{needs}
+use Rattle.mizbulett.proofs.word_calls.mizbulett_correct.Statement.{statement}
+use Rattle.mizbulett.proofs.word_calls.mizbulett_correct.Tie as tie
+
+correct-requires : tie.Need-correct-requires
+correct-requires c κs = search needs
+
+enum-known-r : tie.Need-enum-known-r
+enum-known-r c = search needs
+
+number-requires : tie.Need-number-requires
+number-requires c κs = search needs
+
+enum-known-c : tie.Need-enum-known-c
+enum-known-c c = search needs
+
+returns : tie.Need-returns
+returns c =
+    returns-refused (c .number .ensures) (told correctedAnswer (c .before .before .r .given .1) (c .before .before .before .before .correct .ensures))
+
+returns-2 : tie.Need-returns-2
+returns-2 c =
+    returns-values _ (told correctedAnswer (c .before .before .c .given .1) (c .before .before .before .before .correct .ensures))
+
+pub mizbulett-correct-spec : {M : Type 1} → statement M
+mizbulett-correct-spec =
+    tie.close
+    (tie.spec correct-requires enum-known-r number-requires enum-known-c returns returns-2)

@@ -1,0 +1,32 @@
+-- `mizbulett::mizbulett_encode` meets its contract: the refusal's number, or the values.
+-- Assumes nothing.
+use Rattle.codes.specs.Codes.{encodedAnswer}
+use Rattle.mizbulett.proofs.Returning.{told, returns-refused, returns-values}
+use borrow.Author.Needs.{needs}
+use Rattle.mizbulett.proofs.word_calls.mizbulett_encode.Statement.{statement}
+use Rattle.mizbulett.proofs.word_calls.mizbulett_encode.Tie as tie
+
+encode-requires : tie.Need-encode-requires
+encode-requires c κs = search needs
+
+enum-known-r : tie.Need-enum-known-r
+enum-known-r c = search needs
+
+number-requires : tie.Need-number-requires
+number-requires c κs = search needs
+
+enum-known-word : tie.Need-enum-known-word
+enum-known-word c = search needs
+
+returns : tie.Need-returns
+returns c =
+    returns-refused (c .number .ensures) (told encodedAnswer (c .before .before .r .given .1) (c .before .before .before .before .encode .ensures))
+
+returns-2 : tie.Need-returns-2
+returns-2 c =
+    returns-values _ (told encodedAnswer (c .before .before .word .given .1) (c .before .before .before .before .encode .ensures))
+
+pub mizbulett-encode-spec : {M : Type 1} → statement M
+mizbulett-encode-spec =
+    tie.close
+    (tie.spec encode-requires enum-known-r number-requires enum-known-word returns returns-2)

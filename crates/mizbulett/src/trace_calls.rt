@@ -1,0 +1,110 @@
+// The trace calls.
+use trace::Done;
+use trace::Pressures;
+use trace::ReadAnswer;
+use trace::SurveyAnswer;
+ghost use mathlib.Core.Path.{_≡_};
+ghost use Rattle.trace.specs.Calls.{put, flip, mark, clear, read, survey};
+ghost use Rattle.trace.specs.Trace.{onBytes, make};
+ghost use Rattle.trace.specs.Answers.{doneAnswer, pressuresValues};
+ghost use Rattle.mizbulett.specs.Returned.{numberOf, returned, returns, leaves, presence, inTen};
+
+fn number(done: Done) -> u64
+    ensures { λ r. ⌜ r ≡ numberOf (doneAnswer done) ⌝ }
+{
+    match done {
+        Done::Accepted => 0,
+        Done::Refused(r) => r.number(),
+    }
+}
+
+// Makes a trace of blank slots at the buffer's end. Refusals 1, 6 and 7.
+#[no_mangle]
+pub extern "C" fn mizbulett_make(buf: &mut [u8], code: u64, slots: u64) -> u64
+    ensures { λ r. ⌜ returned r (now (buf .exit)) ≡ leaves (make code slots (now (buf .entry))) ⌝ }
+{
+    number(trace::make(buf, code, slots))
+}
+
+// Writes a step and a reading into a slot. Refusals 7, 8, 9 and 13.
+#[no_mangle]
+pub extern "C" fn mizbulett_put(buf: &mut [u8], slot: u64, step: u64, reading: u64) -> u64
+    ensures { λ r. ⌜ returned r (now (buf .exit)) ≡ leaves (onBytes (put slot step reading) (now (buf .entry))) ⌝ }
+{
+    number(trace::put(buf, slot, step, reading))
+}
+
+// Inverts a stored bit. Refusals 7 to 12.
+#[no_mangle]
+pub extern "C" fn mizbulett_flip(buf: &mut [u8], slot: u64, position: u64) -> u64
+    ensures { λ r. ⌜ returned r (now (buf .exit)) ≡ leaves (onBytes (flip slot position) (now (buf .entry))) ⌝ }
+{
+    number(trace::flip(buf, slot, position))
+}
+
+// Marks a stored bit. Refusals 7 to 12.
+#[no_mangle]
+pub extern "C" fn mizbulett_mark(buf: &mut [u8], slot: u64, position: u64) -> u64
+    ensures { λ r. ⌜ returned r (now (buf .exit)) ≡ leaves (onBytes (mark slot position) (now (buf .entry))) ⌝ }
+{
+    number(trace::mark(buf, slot, position))
+}
+
+// Blanks a slot. Refusals 7, 8 and 9.
+#[no_mangle]
+pub extern "C" fn mizbulett_clear(buf: &mut [u8], slot: u64) -> u64
+    ensures { λ r. ⌜ returned r (now (buf .exit)) ≡ leaves (onBytes (clear slot) (now (buf .entry))) ⌝ }
+{
+    number(trace::clear(buf, slot))
+}
+
+// Mends a slot, and writes step, reading, wrong and marks. Refusals 7 to 11, then 5.
+#[no_mangle]
+pub extern "C" fn mizbulett_read(buf: &[u8], slot: u64, out: &mut [u64; 4]) -> u64
+    ensures { λ r. ⌜ returned r (now (out .exit)) ≡ returns (onBytes (read slot) (now (buf .entry)) .answer) (now (out .entry)) ⌝ }
+{
+    match trace::read(buf, slot) {
+        ReadAnswer::Refused(r) => r.number(),
+        ReadAnswer::Mended(v) => {
+            *out = [v.step, v.reading, v.wrong, v.marks];
+            0
+        }
+    }
+}
+
+// Smallest, largest and mean after a 1, or four zeros where they are absent.
+fn present(p: Pressures) -> [u64; 4]
+    ensures { λ r. ⌜ r ≡ presence (pressuresValues p) ⌝ }
+{
+    match p {
+        Pressures::Absent => [0, 0, 0, 0],
+        Pressures::Present(smallest, largest, mean) => [1, smallest, largest, mean],
+    }
+}
+
+// Counts the slots, and writes blank, read, over, lost, bad, sum, present, smallest, largest and mean. Refusals 7 and 8.
+#[no_mangle]
+pub extern "C" fn mizbulett_survey(buf: &[u8], out: &mut [u64; 10]) -> u64
+    ensures { λ r. ⌜ returned r (now (out .exit)) ≡ returns (inTen (onBytes survey (now (buf .entry)) .answer)) (now (out .entry)) ⌝ }
+{
+    match trace::survey(buf) {
+        SurveyAnswer::Refused(r) => r.number(),
+        SurveyAnswer::Counts(s) => {
+            let pressures = s.pressures;
+            let p = present(pressures);
+            *out = [
+                s.blank,
+                s.read,
+                s.over,
+                s.lost,
+                s.bad,
+                s.sum,
+                p[0],
+                p[1],
+                p[2],
+                p[3],
+            ];
+            0
+        }
+    }
+}

@@ -1,0 +1,4 @@
+pub mod Told
+pub mod Turns
+pub mod Plays
+pub mod Progress

@@ -1,0 +1,68 @@
+-- One turn of a replay: what a list of numbers begins with, and how its play begins. A list that begins with no call has no calls; one that
+-- begins with a call has that call and the calls of what follows it. How many calls are asked for doesn't matter, if there are enough.
+-- Assumes nothing.
+use Prim.Native.Nat.{ℕ, zero, suc, _+_, _-_, _<_, _≤_}
+use mathlib.Core.Path.{_≡_, refl}
+use mathlib.Core.Bool.{true, false}
+use mathlib.Core.List.{List, [], _∷_}
+use native.Mathlib.Omega.{arith}
+use lib.Dec.{leb, ltb, eqb}
+use lib.ListN.{length, getD, drop, length-drop}
+use borrow.Author.Tests.{le-leb, lt-leb, leb-true}
+use Rattle.trace.specs.Trace.{onBytes}
+use Rattle.trace.proofs.Settling.{and-true}
+use Rattle.replay.specs.declared.orders.Order.{Order}
+use Rattle.replay.specs.Numbers.{kinds, isCall, callsIn, answerNumbers}
+use Rattle.replay.specs.Play.{nothing, play}
+use Rattle.replay.specs.Rows.{orderCall, OrderedBy, RanAs, TurnedBy}
+
+-- a call is within its list
+call-within : (xs : List ℕ) → isCall xs ≡ true → 2 + getD xs 1 0 ≤ length xs
+unfolding isCall
+call-within xs e =
+    let a = and-true (leb 2 (length xs)) _ e in
+    let b = and-true (ltb (getD xs 0 0) (length kinds)) _ (a .1) in
+    let c = and-true (eqb (getD xs 1 0) (getD kinds (getD xs 0 0) 0)) _ (b .1) in
+    leb-true _ _ (c .1)
+
+no-calls : (n : ℕ) (xs : List ℕ) → isCall xs ≡ false → callsIn n xs ≡ []
+unfolding callsIn
+no-calls zero xs e = refl
+no-calls (suc n) xs e = rw e
+
+first-call : (n : ℕ) (xs : List ℕ) (o : Order) (k : ℕ) → OrderedBy xs o k → callsIn (suc n) xs ≡ orderCall o ∷ callsIn n (drop k xs)
+unfolding callsIn
+first-call n xs o k h = rw (h .whole, h .named, h .size)
+
+module _ (xs b out : List ℕ) where
+  pub stops-uncalled : isCall xs ≡ false → (n : ℕ) → play onBytes (callsIn n xs) (length out) b ≡ nothing b
+  unfolding play
+  stops-uncalled e n = rw (no-calls n xs e)
+
+  pub stops-roomless : (o : Order) (k : ℕ) → OrderedBy xs o k → length out < length (answerNumbers (onBytes (orderCall o) b .answer))
+      → (n : ℕ) → play onBytes (callsIn n xs) (length out) b ≡ nothing b
+  unfolding play callsIn
+  stops-roomless o k h lt zero = refl
+  stops-roomless o k h lt (suc n) = rw (first-call n xs o k h, lt-leb _ _ lt)
+
+  pub turns : (o : Order) (k count : ℕ) (b′ out′ : List ℕ) → OrderedBy xs o k → RanAs (orderCall o) b out count b′ out′ → TurnedBy xs b out k count b′ out′
+  unfolding play
+  turns o k count b′ out′ h r =
+      record {
+        numbers = answerNumbers (onBytes (orderCall o) b .answer);
+        told = r .answer;
+        played = λ n. rw (first-call n xs o k h, le-leb _ _ (r .answer .fits), r .answer .size, r .buffer);
+        within = rw (h .size) (call-within xs (h .whole));
+        some = omega (arith, h .size);
+      }
+
+-- enough is as good as more
+pub enough : (m n : ℕ) (xs : List ℕ) → length xs ≤ m → length xs ≤ n → callsIn m xs ≡ callsIn n xs
+unfolding callsIn isCall
+enough zero zero xs hm hn = refl
+enough zero (suc n) xs hm hn = rw (lt-leb 2 (length xs) (omega arith))
+enough (suc m) zero xs hm hn = rw (lt-leb 2 (length xs) (omega arith))
+enough (suc m) (suc n) xs hm hn =
+    let rest : callsIn m (drop (2 + getD xs 1 0) xs) ≡ callsIn n (drop (2 + getD xs 1 0) xs) =
+    enough m n (drop (2 + getD xs 1 0) xs) (rw length-drop (omega arith)) (rw length-drop (omega arith)) in
+    rw rest

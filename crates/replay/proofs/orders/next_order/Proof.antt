@@ -1,0 +1,87 @@
+-- `replay::orders::next_order` meets its contract: the tests stand in the definition's order.
+-- Assumes nothing.
+use Prim.Native.Nat.{_+_, _≤_, _<_}
+use mathlib.Core.Path.{refl, sym, _∙_}
+use denote.Ref.{now}
+use lib.ListN.{length, getD}
+use native.Mathlib.Omega.{arith}
+use borrow.Author.Tests.{lt-ltb, le-ltb, le-leb, lt-leb, eq-eqb, ne-eqb}
+use Rattle.replay.specs.Numbers.{isCall}
+use borrow.Author.Needs.{needs}
+use Rattle.replay.proofs.orders.next_order.Statement.{statement}
+use Rattle.replay.proofs.orders.next_order.Tie as tie
+
+returns : tie.Need-returns
+unfolding isCall
+returns c = simp (lt-leb _ _ (c .if1 .taken))
+
+shared-slice-read-kind : tie.Need-shared-slice-read-kind
+shared-slice-read-kind c = search needs
+
+shared-slice-read-count : tie.Need-shared-slice-read-count
+shared-slice-read-count c = search needs
+
+returns-2 : tie.Need-returns-2
+unfolding isCall
+returns-2 c = simp (le-leb _ _ (c .before .before .before .if1 .left), le-ltb _ _ (c .if2 .taken))
+
+numbers-of-requires : tie.Need-numbers-of-requires
+numbers-of-requires c κs = search needs
+
+returns-3 : tie.Need-returns-3
+unfolding isCall
+returns-3 c =
+    simp (le-leb _ _ (c .before .before .before .before .before .if1 .left), lt-ltb _ _ (c .before .before .if2 .left), ne-eqb _ _ (λ e. c .if3 .taken (e ∙ sym (c .before .numbers-of .ensures))))
+
+sub-if4 : tie.Need-sub-if4
+sub-if4 c = search needs
+
+returns-4 : tie.Need-returns-4
+unfolding isCall
+returns-4 c =
+    let xs = now (c .before .before .before .before .before .before .before .before .args .xs) in
+    let cut : length xs < 2 + getD xs 1 0 = omega arith in
+    let right-count = c .before .if3 .left ∙ c .before .before .numbers-of .ensures in
+    simp (le-leb _ _ (c .before .before .before .before .before .before .if1 .left), lt-ltb _ _ (c .before .before .before .if2 .left), eq-eqb _ _ right-count, lt-leb _ _ cut)
+
+number-requires : tie.Need-number-requires
+number-requires c κs = search needs
+
+number-requires-2 : tie.Need-number-requires-2
+number-requires-2 c κs = search needs
+
+number-requires-3 : tie.Need-number-requires-3
+number-requires-3 c κs = search needs
+
+add-t10 : tie.Need-add-t10
+add-t10 c = search needs
+
+returns-5 : tie.Need-returns-5
+unfolding isCall
+returns-5 c =
+    let xs = now (c .before .before .before .before .before .before .before .before .before .before .before .args .xs) in
+    let within : 2 + getD xs 1 0 ≤ length xs = omega arith in
+    let right-count = c .before .before .before .before .if3 .left ∙ c .before .before .before .before .before .numbers-of .ensures in
+    record {
+      whole = simp (le-leb _ _ (c .before .before .before .before .before .before .before .before .before .if1 .left), lt-ltb _ _ (c .before .before .before .before .before .before .if2 .left), eq-eqb _ _ right-count, le-leb _ _ within);
+      named = rw (c .before .before .number .ensures, c .before .number2 .ensures, c .number3 .ensures);
+      size = refl;
+    }
+
+pub next-order-spec : {M : Type 1} → statement M
+next-order-spec =
+    tie.close
+    (tie.spec
+    returns
+    shared-slice-read-kind
+    shared-slice-read-count
+    returns-2
+    numbers-of-requires
+    returns-3
+    sub-if4
+    returns-4
+    number-requires
+    number-requires-2
+    number-requires-3
+    add-t10
+    returns-5)

@@ -1,0 +1,26 @@
+-- `replay::rows::done_row` meets its contract.
+-- Assumes nothing.
+use mathlib.Core.Path.{refl}
+use native.Mathlib.Omega.{arith}
+use borrow.Author.Needs.{needs}
+use Rattle.replay.proofs.rows.done_row.Statement.{statement}
+use Rattle.replay.proofs.rows.done_row.Tie as tie
+
+enum-told : tie.Need-enum-told
+enum-told c = search needs
+
+enum-known-answer : tie.Need-enum-known-answer
+enum-known-answer c = search needs
+
+refused-row-requires : tie.Need-refused-row-requires
+refused-row-requires c κs = search needs
+
+returns : tie.Need-returns
+returns c = (record { numbers = rw (c .enum-told .given .1); count = omega arith; values = refl }, refl)
+
+returns-2 : tie.Need-returns-2
+returns-2 c = rw (c .before .before .answer .given .1) (c .refused-row .ensures)
+
+pub done-row-spec : {M : Type 1} → statement M
+done-row-spec =
+    tie.close (tie.spec enum-told enum-known-answer refused-row-requires returns returns-2)

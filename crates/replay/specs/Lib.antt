@@ -1,0 +1,4 @@
+pub mod Numbers
+pub mod Replay
+pub mod Play
+pub mod Rows

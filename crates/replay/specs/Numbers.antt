@@ -1,0 +1,43 @@
+-- Calls and answers as numbers. A call is its kind, the count of numbers that follow, and the numbers; an answer is the refusal's number or 0,
+-- the count of values, and the values.
+-- Assumes nothing.
+use mathlib.Core.Bool.{Bool, cond, _&&_}
+use mathlib.Core.List.{List, [], _∷_}
+use Prim.Native.Nat.{ℕ, zero, suc, _+_}
+use lib.Dec.{leb, ltb, eqb}
+use lib.ListN.{length, getD, drop}
+use Rattle.codes.specs.Answer.{Answer, accepted, refused}
+use Rattle.trace.specs.Calls.{Call, put, flip, mark, clear, read, survey}
+
+-- kinds 0 to 5 are put, flip, mark, clear, read and survey: how many numbers each has
+abbrev pub kinds : List ℕ
+kinds = 3 ∷ 2 ∷ 2 ∷ 1 ∷ 1 ∷ 0 ∷ []
+
+-- the call of a kind with its numbers, of which a call may have fewer
+unfoldable pub callWith : ℕ → ℕ → ℕ → ℕ → Call
+callWith kind x y z =
+    cond (eqb kind 0) (put x y z)
+    (cond (eqb kind 1) (flip x y)
+    (cond (eqb kind 2) (mark x y)
+    (cond (eqb kind 3) (clear x)
+    (cond (eqb kind 4) (read x) survey))))
+
+-- a list of numbers begins with a call: no 'unknown kind, wrong count, cut-off end'
+unfoldable pub isCall : List ℕ → Bool
+isCall xs =
+    leb 2 (length xs)
+    && (ltb (getD xs 0 0) (length kinds) && (eqb (getD xs 1 0) (getD kinds (getD xs 0 0) 0) && leb (2 + getD xs 1 0) (length xs)))
+
+-- the calls that a list of numbers begins with, at most n of them
+unfoldable pub callsIn : ℕ → List ℕ → List Call
+callsIn zero xs = []
+callsIn (suc n) xs =
+    cond (isCall xs) (callWith (getD xs 0 0) (getD xs 2 0) (getD xs 3 0) (getD xs 4 0) ∷ callsIn n (drop (2 + getD xs 1 0) xs)) []
+
+abbrev pub callsOf : List ℕ → List Call
+callsOf xs = callsIn (length xs) xs
+
+-- an answer's numbers
+abbrev pub answerNumbers : Answer → List ℕ
+answerNumbers (accepted vs) = 0 ∷ length vs ∷ vs
+answerNumbers (refused n) = n ∷ 0 ∷ []

@@ -1,0 +1,34 @@
+-- Two texts are the same where the test says so.
+-- Assumes nothing.
+use mathlib.Core.Path.{_≡_, refl, sym, ap, ap₂, _∙_}
+use mathlib.Core.Bool.{Bool, true, false, _&&_}
+use mathlib.Core.List.{List, [], _∷_}
+use Prim.Native.Nat.{ℕ}
+use native.Mathlib.Omega.{arith}
+use lib.Dec.{eqb}
+use borrow.Author.Tests.{eq-eqb, eqb-true}
+use Rattle.script.specs.Script.{is}
+
+is-refl : (a : List ℕ) → is a a ≡ true
+unfolding is
+is-refl [] = refl
+is-refl (c ∷ cs) = simp (eq-eqb c c refl, is-refl cs)
+
+is-true : (a b : List ℕ) → is a b ≡ true → a ≡ b
+unfolding is
+is-true [] [] e = refl
+is-true [] (d ∷ ds) e = let z : _≡_ {A = ℕ} 0 1 = cc in absurd (omega arith)
+is-true (c ∷ cs) [] e = let z : _≡_ {A = ℕ} 0 1 = cc in absurd (omega arith)
+is-true (c ∷ cs) (d ∷ ds) e = go (eqb c d) refl e (is-true cs ds)
+  where
+    go : (t : Bool) → eqb c d ≡ t → t && is cs ds ≡ true → (is cs ds ≡ true → cs ≡ ds) → c ∷ cs ≡ d ∷ ds
+    go true t e more = ap₂ (λ (x : ℕ) (xs : List ℕ). x ∷ xs) (eqb-true c d t) (more e)
+    go false t e more = let z : _≡_ {A = ℕ} 0 1 = cc in absurd (omega arith)
+
+pub is-same : (r : Bool) (a b : List ℕ) → (r ≡ true → a ≡ b) → (a ≡ b → r ≡ true) → r ≡ is a b
+is-same true a b f g = sym (ap (λ (l : List ℕ). is l b) (f refl) ∙ is-refl b)
+is-same false a b f g = go (is a b) refl
+  where
+    go : (t : Bool) → is a b ≡ t → false ≡ is a b
+    go true t = g (is-true a b t) ∙ sym t
+    go false t = sym t

@@ -1,0 +1,42 @@
+-- `script::line::with_none` meets its contract: the calls with no number.
+-- Assumes nothing.
+use Rattle.script.specs.Script.{commandOf}
+use borrow.Author.Needs.{needs}
+use Rattle.script.proofs.line.with_none.Statement.{statement}
+use Rattle.script.proofs.line.with_none.Tie as tie
+
+slice-aggregate-says : tie.Need-slice-aggregate-says
+slice-aggregate-says c = search needs
+
+says-requires : tie.Need-says-requires
+says-requires c κs = search needs
+
+returns : tie.Need-returns
+unfolding commandOf
+returns c = simp (← c .before .says .ensures, c .if1 .taken)
+
+slice-aggregate-says-2 : tie.Need-slice-aggregate-says-2
+slice-aggregate-says-2 c = search needs
+
+says-requires-2 : tie.Need-says-requires-2
+says-requires-2 c κs = search needs
+
+returns-2 : tie.Need-returns-2
+unfolding commandOf
+returns-2 c = simp (← c .before .says2 .ensures, c .if2 .taken, ← c .before .before .before .before .says .ensures, c .before .before .before .if1 .left)
+
+returns-3 : tie.Need-returns-3
+unfolding commandOf
+returns-3 c = simp (← c .before .says2 .ensures, c .if2 .left, ← c .before .before .before .before .says .ensures, c .before .before .before .if1 .left)
+
+pub with-none-spec : {M : Type 1} → statement M
+with-none-spec =
+    tie.close
+    (tie.spec
+    slice-aggregate-says
+    says-requires
+    returns
+    slice-aggregate-says-2
+    says-requires-2
+    returns-2
+    returns-3)

@@ -1,0 +1,55 @@
+-- `script::line::with_two` meets its contract: the calls with two numbers.
+-- Assumes nothing.
+use Rattle.script.specs.Script.{commandOf}
+use borrow.Author.Needs.{needs}
+use Rattle.script.proofs.line.with_two.Statement.{statement}
+use Rattle.script.proofs.line.with_two.Tie as tie
+
+slice-aggregate-says : tie.Need-slice-aggregate-says
+slice-aggregate-says c = search needs
+
+says-requires : tie.Need-says-requires
+says-requires c κs = search needs
+
+returns : tie.Need-returns
+unfolding commandOf
+returns c = simp (← c .before .says .ensures, c .if1 .taken)
+
+slice-aggregate-says-2 : tie.Need-slice-aggregate-says-2
+slice-aggregate-says-2 c = search needs
+
+says-requires-2 : tie.Need-says-requires-2
+says-requires-2 c κs = search needs
+
+returns-2 : tie.Need-returns-2
+unfolding commandOf
+returns-2 c = simp (← c .before .says2 .ensures, c .if2 .taken, ← c .before .before .before .before .says .ensures, c .before .before .before .if1 .left)
+
+slice-aggregate-says-3 : tie.Need-slice-aggregate-says-3
+slice-aggregate-says-3 c = search needs
+
+says-requires-3 : tie.Need-says-requires-3
+says-requires-3 c κs = search needs
+
+returns-3 : tie.Need-returns-3
+unfolding commandOf
+returns-3 c = simp (← c .before .says3 .ensures, c .if3 .taken, ← c .before .before .before .before .says2 .ensures, c .before .before .before .if2 .left, ← c .before .before .before .before .before .before .before .says .ensures, c .before .before .before .before .before .before .if1 .left)
+
+returns-4 : tie.Need-returns-4
+unfolding commandOf
+returns-4 c = simp (← c .before .says3 .ensures, c .if3 .left, ← c .before .before .before .before .says2 .ensures, c .before .before .before .if2 .left, ← c .before .before .before .before .before .before .before .says .ensures, c .before .before .before .before .before .before .if1 .left)
+
+pub with-two-spec : {M : Type 1} → statement M
+with-two-spec =
+    tie.close
+    (tie.spec
+    slice-aggregate-says
+    says-requires
+    returns
+    slice-aggregate-says-2
+    says-requires-2
+    returns-2
+    slice-aggregate-says-3
+    says-requires-3
+    returns-3
+    returns-4)

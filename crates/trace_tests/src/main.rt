@@ -1,0 +1,329 @@
+// The trace calls, tried: each refusal, also where a later one applies too, and the boundaries of every number; whether any byte changed;
+// surveys; and random lists of calls whose reads are held against a search through all codewords.
+mod lists;
+mod show;
+
+use show::bytes_changed;
+use show::decimal;
+use show::tell_done;
+use show::tell_read;
+use show::tell_survey;
+use show::text;
+ghost use Prim.Native.Nat.{_≤_, _<_};
+
+// Makes a trace in the first bytes of a buffer.
+fn make(buffer: [u8; 64], length: usize, code: u64, slots: u64) -> [u8; 64]
+    requires { ⌜ length ≤ 64 ⌝ }
+{
+    let mut b = buffer;
+    let answer = trace::make(&mut b[0..length], code, slots);
+    text(b"make ");
+    decimal(code);
+    text(b" ");
+    decimal(slots);
+    text(b" in ");
+    decimal(length as u64);
+    tell_done(answer);
+    bytes_changed(&buffer, &b);
+    b
+}
+
+// A trace with so many slots, in a buffer of so many bytes and no larger.
+fn make_large(length: usize, slots: u64)
+    requires { ⌜ length ≤ 44019 ⌝ }
+{
+    let mut b = [0u8; 44019];
+    text(b"make ");
+    decimal(slots);
+    text(b" slots in ");
+    decimal(length as u64);
+    tell_done(trace::make(&mut b[0..length], 4, slots));
+    text(b"\n");
+}
+
+fn put(buffer: [u8; 64], length: usize, slot: u64, step: u64, reading: u64) -> [u8; 64]
+    requires { ⌜ length ≤ 64 ⌝ }
+{
+    let mut b = buffer;
+    let answer = trace::put(&mut b[0..length], slot, step, reading);
+    text(b"put ");
+    decimal(slot);
+    text(b" ");
+    decimal(step);
+    text(b" ");
+    decimal(reading);
+    tell_done(answer);
+    bytes_changed(&buffer, &b);
+    b
+}
+
+fn flip(buffer: [u8; 64], length: usize, slot: u64, position: u64) -> [u8; 64]
+    requires { ⌜ length ≤ 64 ⌝ }
+{
+    let mut b = buffer;
+    let answer = trace::flip(&mut b[0..length], slot, position);
+    text(b"flip ");
+    decimal(slot);
+    text(b" ");
+    decimal(position);
+    tell_done(answer);
+    bytes_changed(&buffer, &b);
+    b
+}
+
+fn mark(buffer: [u8; 64], length: usize, slot: u64, position: u64) -> [u8; 64]
+    requires { ⌜ length ≤ 64 ⌝ }
+{
+    let mut b = buffer;
+    let answer = trace::mark(&mut b[0..length], slot, position);
+    text(b"mark ");
+    decimal(slot);
+    text(b" ");
+    decimal(position);
+    tell_done(answer);
+    bytes_changed(&buffer, &b);
+    b
+}
+
+fn clear(buffer: [u8; 64], length: usize, slot: u64) -> [u8; 64]
+    requires { ⌜ length ≤ 64 ⌝ }
+{
+    let mut b = buffer;
+    let answer = trace::clear(&mut b[0..length], slot);
+    text(b"clear ");
+    decimal(slot);
+    tell_done(answer);
+    bytes_changed(&buffer, &b);
+    b
+}
+
+fn read(buffer: [u8; 64], length: usize, slot: u64)
+    requires { ⌜ length ≤ 64 ⌝ }
+{
+    text(b"read ");
+    decimal(slot);
+    tell_read(trace::read(&buffer[0..length], slot));
+    text(b"\n");
+}
+
+fn survey(buffer: [u8; 64], length: usize)
+    requires { ⌜ length ≤ 64 ⌝ }
+{
+    text(b"survey");
+    tell_survey(trace::survey(&buffer[0..length]));
+    text(b"\n");
+}
+
+// A buffer with another byte.
+fn with(buffer: [u8; 64], at: usize, byte: u8) -> [u8; 64]
+    requires { ⌜ at < 64 ⌝ }
+{
+    let mut b = buffer;
+    b[at] = byte;
+    b
+}
+
+// All calls on a slot of a trace.
+fn every_call(buffer: [u8; 64], length: usize, slot: u64, position: u64)
+    requires { ⌜ length ≤ 64 ⌝ }
+{
+    put(buffer, length, slot, 0, 0);
+    clear(buffer, length, slot);
+    flip(buffer, length, slot, position);
+    mark(buffer, length, slot, position);
+    read(buffer, length, slot);
+    survey(buffer, length);
+}
+
+// Refusals 1, 6 and 7 of making, in order.
+fn makings() {
+    let b = [255u8; 64];
+    make(b, 64, 0, 0);
+    make(b, 64, 5, 0);
+    make(b, 7, 1, 0);
+    make(b, 18, 1, 1);
+    make(b, 19, 1, 1);
+    make(b, 64, 4, 5);
+    make(b, 63, 4, 5);
+    make(b, 62, 4, 5);
+    make(b, 64, 18446744073709551615, 18446744073709551615);
+    make(b, 64, 4, 18446744073709551615);
+}
+
+// The most slots, and the bytes that they need.
+fn large_makings() {
+    make_large(44008, 4000);
+    make_large(44007, 4000);
+    make_large(44019, 4001);
+    make_large(8, 0);
+}
+
+// A survey of a buffer with another byte.
+fn survey_with(buffer: [u8; 64], at: usize, byte: u8)
+    requires { ⌜ at < 64 ⌝ }
+{
+    survey(with(buffer, at, byte), 64);
+}
+
+// Refusal 8: each byte of a trailer of 2 slots spoilt. Code 4 is no fault.
+fn spoilt_trailers(b: [u8; 64]) {
+    survey_with(b, 56, 1);
+    survey_with(b, 57, 1);
+    survey_with(b, 58, 1);
+    survey_with(b, 59, 21);
+    survey_with(b, 60, 1);
+    survey_with(b, 61, 0);
+    survey_with(b, 61, 3);
+    survey_with(b, 62, 0);
+    survey_with(b, 62, 4);
+    survey_with(b, 62, 5);
+    survey_with(b, 63, 0);
+    survey_with(b, 63, 2);
+}
+
+// Refusals 7 and 8: the shortest buffers, a spoilt trailer, and 5 slots with the right distance of 55, but 54 bytes before the trailer.
+fn trailers() {
+    let b = make([255u8; 64], 64, 1, 2);
+    every_call(b, 7, 18446744073709551615, 18446744073709551615);
+    every_call(b, 8, 18446744073709551615, 18446744073709551615);
+    spoilt_trailers(b);
+    let distance = with([0u8; 64], 57, 55);
+    let count = with(distance, 59, 5);
+    let code = with(count, 60, 1);
+    survey(with(code, 61, 1), 62);
+}
+
+// Refusal 13: slot 1 is written.
+fn large_numbers(w: [u8; 64], steps: u64) {
+    put(w, 64, 1, steps, 4096);
+    put(w, 64, 1, steps, 0);
+    put(w, 64, 1, 0, 4096);
+    put(w, 64, 1, 18446744073709551615, 18446744073709551615);
+    read(w, 64, 1);
+}
+
+// Refusal 12: slot 1 is written.
+fn positions(w: [u8; 64], width: u64)
+    requires { ⌜ 0 < width ⌝ }
+{
+    flip(w, 64, 1, width - 1);
+    flip(w, 64, 1, width);
+    mark(w, 64, 1, width - 1);
+    mark(w, 64, 1, width);
+    flip(w, 64, 1, 18446744073709551615);
+}
+
+// Refusal 10: slot 1, which begins at byte 45, has another state, or is blank and not zero.
+fn bad_slots(w: [u8; 64], width: u64) {
+    every_call(with(w, 45, 2), 64, 1, width);
+    every_call(with(w, 45, 0), 64, 1, width);
+}
+
+// Refusals 9 to 13, each also where later ones apply.
+fn slots(code: u64, width: u64, steps: u64)
+    requires { ⌜ (0 < width) × (0 < steps) ⌝ }
+{
+    let b = make([255u8; 64], 64, code, 2);
+    every_call(b, 64, 2, 18446744073709551615);
+    every_call(b, 64, 18446744073709551615, 0);
+    every_call(b, 64, 1, width);
+    every_call(with(b, 55, 1), 64, 1, 0);
+    let w = put(b, 64, 1, steps - 1, 4095);
+    large_numbers(w, steps);
+    positions(w, width);
+    bad_slots(w, width);
+}
+
+// Reads a slot that has another byte.
+fn read_with(buffer: [u8; 64], at: usize, byte: u8)
+    requires { ⌜ at < 64 ⌝ }
+{
+    read(with(buffer, at, byte), 64, 0);
+}
+
+// Each unused bit of word and marks, where there are any: slot 0 begins at byte 45, its word at 46, its marks at 51.
+fn unused_bits(code: u64) {
+    let b = put(make([0u8; 64], 64, code, 1), 64, 0, 0, 0);
+    read_with(b, 46, 16);
+    read_with(b, 46, 32);
+    read_with(b, 46, 64);
+    read_with(b, 46, 128);
+    read_with(b, 51, 16);
+    read_with(b, 51, 32);
+    read_with(b, 51, 64);
+    read_with(b, 51, 128);
+    every_call(with(b, 46, 16), 64, 0, 0);
+}
+
+// A flip, a flip under a mark, a second mark, and the flip taken back. Leaves the slot with the flip alone.
+fn under_marks(b: [u8; 64]) -> [u8; 64] {
+    let one = flip(b, 64, 0, 0);
+    read(one, 64, 0);
+    let marked = mark(one, 64, 0, 0);
+    read(marked, 64, 0);
+    let twice = mark(marked, 64, 0, 0);
+    read(flip(twice, 64, 0, 0), 64, 0);
+    one
+}
+
+// Sums of 6, 7 and 8, and what is written over them.
+fn sums(one: [u8; 64]) {
+    let two = flip(one, 64, 0, 5);
+    let three = flip(two, 64, 0, 10);
+    read(three, 64, 0);
+    read(flip(three, 64, 0, 30), 64, 0);
+    let seven = mark(three, 64, 0, 20);
+    read(seven, 64, 0);
+    read(mark(seven, 64, 0, 21), 64, 0);
+    read(put(seven, 64, 0, 1, 4094), 64, 0);
+    survey(clear(seven, 64, 0), 64);
+}
+
+fn reads(code: u64) {
+    let b = put(make([0u8; 64], 64, code, 1), 64, 0, 74, 2385);
+    read(b, 64, 0);
+    sums(under_marks(b));
+}
+
+// A put, and a survey after it.
+fn put_and_survey(buffer: [u8; 64], slot: u64, step: u64, reading: u64) -> [u8; 64] {
+    let b = put(buffer, 64, slot, step, reading);
+    survey(b, 64);
+    b
+}
+
+// Surveys: nothing read; 0, 4094 and 4095; a mean that rounds down; lost and bad slots.
+fn surveys() {
+    let b = make([0u8; 64], 64, 3, 5);
+    survey(b, 64);
+    let over = put_and_survey(b, 0, 1, 4095);
+    let low = put_and_survey(over, 1, 1, 0);
+    let high = put_and_survey(low, 2, 1023, 4094);
+    let odd = put_and_survey(high, 3, 5, 1);
+    let two = flip(flip(odd, 64, 1, 0), 64, 1, 1);
+    let lost = flip(flip(two, 64, 1, 2), 64, 1, 3);
+    survey(lost, 64);
+    survey_with(lost, 23, 7);
+}
+
+fn main() {
+    makings();
+    large_makings();
+    trailers();
+    slots(1, 36, 128);
+    slots(2, 36, 128);
+    slots(3, 40, 1024);
+    slots(4, 40, 1024);
+    unused_bits(1);
+    unused_bits(2);
+    unused_bits(3);
+    reads(1);
+    reads(2);
+    reads(3);
+    reads(4);
+    surveys();
+    lists::report(1, 36, 524288);
+    lists::report(2, 36, 524288);
+    lists::report(3, 40, 4194304);
+    lists::report(4, 40, 4194304);
+}

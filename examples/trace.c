@@ -1,0 +1,64 @@
+/* A trace of four slots: readings put, one damaged and marked, one damaged beyond mending; each read back, then a survey. */
+#include <inttypes.h>
+#include <stdio.h>
+
+#include "mizbulett.h"
+
+enum { CODE = 1, SLOTS = 4, SIZE = 11 * SLOTS + 8 };
+
+static void expect_accepted(const char *call, uint64_t number)
+{
+    if (number != MIZBULETT_ACCEPTED) {
+        printf("%s: refused %" PRIu64 "\n", call, number);
+    }
+}
+
+static void print_slot(const uint8_t *trace, uint64_t slot)
+{
+    uint64_t out[4];
+    uint64_t number = mizbulett_read(trace, SIZE, slot, out);
+    if (number != MIZBULETT_ACCEPTED) {
+        printf("slot %" PRIu64 ": refused %" PRIu64 "\n", slot, number);
+    } else {
+        printf("slot %" PRIu64 ": step %" PRIu64 " reading %" PRIu64 ", %" PRIu64 " wrong, %" PRIu64 " marked%s\n", slot, out[0], out[1],
+               out[2], out[3], out[1] == 4095 ? ", no pressure" : "");
+    }
+}
+
+int main(void)
+{
+    uint8_t trace[SIZE];
+    uint64_t out[10];
+
+    expect_accepted("make", mizbulett_make(trace, SIZE, CODE, SLOTS));
+    expect_accepted("put", mizbulett_put(trace, SIZE, 0, 74, 2385));
+    expect_accepted("put", mizbulett_put(trace, SIZE, 1, 75, 4095));
+    expect_accepted("put", mizbulett_put(trace, SIZE, 2, 76, 2401));
+
+    /* Slot 0: two wrong bits and three marks, one of them on a wrong bit: 2 * 1 + 3 is at most 7, and it is mended. */
+    expect_accepted("flip", mizbulett_flip(trace, SIZE, 0, 3));
+    expect_accepted("flip", mizbulett_flip(trace, SIZE, 0, 35));
+    expect_accepted("mark", mizbulett_mark(trace, SIZE, 0, 35));
+    expect_accepted("mark", mizbulett_mark(trace, SIZE, 0, 20));
+    expect_accepted("mark", mizbulett_mark(trace, SIZE, 0, 21));
+
+    /* Slot 2: four wrong bits, one too many. */
+    for (uint64_t position = 0; position < 4; position++) {
+        expect_accepted("flip", mizbulett_flip(trace, SIZE, 2, 9 * position));
+    }
+
+    /* A step that the code has no room for: refused, and nothing changes. */
+    printf("put 3 128 0: refused %" PRIu64 "\n", mizbulett_put(trace, SIZE, 3, 128, 0));
+
+    for (uint64_t slot = 0; slot < SLOTS; slot++) {
+        print_slot(trace, slot);
+    }
+    expect_accepted("survey", mizbulett_survey(trace, SIZE, out));
+    printf("blank %" PRIu64 " read %" PRIu64 " over %" PRIu64 " lost %" PRIu64 " bad %" PRIu64 "\n", out[0], out[1], out[2], out[3], out[4]);
+    if (out[6] == 1) {
+        printf("pressures from %" PRIu64 " to %" PRIu64 ", mean %" PRIu64 "\n", out[7], out[8], out[9]);
+    } else {
+        printf("no pressure\n");
+    }
+    return 0;
+}

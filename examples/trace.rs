@@ -1,0 +1,56 @@
+//! A trace of four slots: readings put, one damaged and marked, one damaged beyond mending; each read back, then a survey.
+
+#[path = "../include/mizbulett.rs"]
+mod mizbulett;
+
+use mizbulett::{flip, make, mark, put, read, survey};
+
+const CODE: u64 = 1;
+const SLOTS: u64 = 4;
+
+/// Makes and damages the trace. The number is that of a refused call.
+fn shift(trace: &mut [u8]) -> Result<(), u64> {
+    make(trace, CODE, SLOTS)?;
+    put(trace, 0, 74, 2385)?;
+    put(trace, 1, 75, 4095)?;
+    put(trace, 2, 76, 2401)?;
+
+    // Slot 0: two wrong bits and three marks, one of them on a wrong bit: 2 * 1 + 3 is at most 7, and it is mended.
+    for position in [3, 35] {
+        flip(trace, 0, position)?;
+    }
+    for position in [35, 20, 21] {
+        mark(trace, 0, position)?;
+    }
+
+    // Slot 2: four wrong bits, one too many.
+    for position in [0, 9, 18, 27] {
+        flip(trace, 2, position)?;
+    }
+    Ok(())
+}
+
+fn main() {
+    let mut trace = [0; 11 * SLOTS as usize + 8];
+    shift(&mut trace).expect("every call is accepted");
+
+    // A step that the code has no room for: refused, and nothing changes.
+    let refused = put(&mut trace, 3, 128, 0).expect_err("128 steps have the numbers 0 to 127");
+    println!("put 3 128 0: refused {refused}");
+
+    for slot in 0..SLOTS {
+        match read(&trace, slot) {
+            Ok([step, reading, wrong, marks]) => {
+                let note = if reading == 4095 { ", no pressure" } else { "" };
+                println!("slot {slot}: step {step} reading {reading}, {wrong} wrong, {marks} marked{note}");
+            }
+            Err(number) => println!("slot {slot}: refused {number}"),
+        }
+    }
+    let counts = survey(&trace).expect("a whole trace");
+    println!("blank {} read {} over {} lost {} bad {}", counts.blank, counts.read, counts.over, counts.lost, counts.bad);
+    match counts.pressures {
+        Some(p) => println!("pressures from {} to {}, mean {}", p.smallest, p.largest, p.mean),
+        None => println!("no pressure"),
+    }
+}
