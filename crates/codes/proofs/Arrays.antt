@@ -8,12 +8,12 @@ use native.Mathlib.Omega.{arith}
 use lib.ListN.{length, getD, take, drop, set, replicate, List·getD-append}
 use lib.Seq.{drop-cons, drop-set-lt, getD-set-same, lt-length-set, getD-take}
 use Rattle.symbols.specs.Symbol.{Symbol, symbolOf}
-use Rattle.symbols.specs.Column.{Column, columnOf}
+use Rattle.symbols.specs.Column.{columnOf}
 use Rattle.symbols.proofs.Numbers.{column-mod}
 use Rattle.codes.specs.Digits.{symbols, columns, digits, numberOf}
 use Rattle.codes.specs.Vector.{scale}
 use Rattle.codes.specs.Projection.{Projection, size}
-use Rattle.codes.specs.Walk.{held, scaled, scaledColumns}
+use Rattle.codes.specs.Walk.{scaled, scaledColumns}
 
 pub drop-set : (l : List ℕ) (j v : ℕ) → j < length l → drop j (set l j v) ≡ v ∷ drop (suc j) l
 drop-set l j v h =

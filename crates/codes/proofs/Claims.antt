@@ -13,7 +13,7 @@ use Rattle.codes.specs.declared.code.Code.{Code}
 use Rattle.codes.specs.declared.code.Code.the-variants.{O36, E36}
 use Rattle.codes.specs.Answer.{Answer, accepted, refused}
 use Rattle.codes.specs.Digits.{columns}
-use Rattle.codes.specs.Projection.{size, width, messageBits}
+use Rattle.codes.specs.Projection.{size, width}
 use Rattle.codes.specs.Word.{word, isCodeword, distance}
 use Rattle.codes.specs.Message.{encode, decode}
 use Rattle.codes.specs.Mending.{wrong, ones, Mended, near, none, mend}

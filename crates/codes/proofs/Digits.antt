@@ -2,7 +2,7 @@
 -- A number modulo b^(k+1) is its k-th digit times b^k plus the number modulo b^k; all laws follow from that by induction on k.
 -- Assumes nothing.
 use mathlib.Core.Path.{_≡_, refl, sym, ap, ap₂, _∙_, subst}
-use mathlib.Core.Bool.{Bool, Bool-discrete}
+use mathlib.Core.Bool.{Bool-discrete}
 use mathlib.Core.List.{List, [], _∷_}
 use Prim.Native.Nat.{ℕ, zero, suc, _+_, _*_, _/_, _%_, _^_, _<_}
 use native.Mathlib.Nat.{mod-lt, mod-eq-of-lt, mod-one, mul-pos, one-mul, pow-succ', pow-zero}

@@ -4,7 +4,7 @@
 use mathlib.Core.Path.{_≡_, refl, sym, ap, ap₂, _∙_, subst}
 use mathlib.Core.Bool.{Bool, true, false, not}
 use mathlib.Core.List.{List, [], _∷_, _++_, map, map-append}
-use Prim.Native.Nat.{ℕ, zero, suc, _+_, _-_, _*_, _/_, _%_, _^_, _≤_, _<_}
+use Prim.Native.Nat.{ℕ, suc, _+_, _-_, _*_, _/_, _%_, _^_, _<_}
 use native.Mathlib.Nat.{div-div-eq-div-mul, div-one}
 use native.Mathlib.Omega.{arith}
 use lib.Dec.{eqb}
@@ -13,9 +13,8 @@ use lib.Pow.{pow-add}
 use lib.Seq.{drop-cons, take-suc-set}
 use Rattle.symbols.specs.Symbol.{_⊻_, Symbol, bit, symbolOf}
 use Rattle.symbols.specs.Column.{Column, value, columnOf, columnWith}
-use Rattle.symbols.proofs.Numbers.{symbol-mod}
 use Rattle.codes.specs.Digits.{bits, symbols, digits}
-use Rattle.codes.specs.Projection.{Projection, wanted, count, size, topBits, messageBits}
+use Rattle.codes.specs.Projection.{Projection, wanted, count, topBits, messageBits}
 use Rattle.codes.specs.Word.{syndrome, syndromeOf}
 use Rattle.codes.specs.Message.{messageOf, place, allTops, columnsWith, codewordOf}
 use Rattle.codes.specs.Walk.{valueAt, drafted}

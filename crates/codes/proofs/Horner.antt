@@ -3,8 +3,8 @@
 -- Assumes nothing.
 use mathlib.Core.Path.{_≡_, sym, ap, _∙_}
 use mathlib.Core.List.{List, [], _∷_}
-use Prim.Native.Nat.{ℕ, _+_, _*_, _^_, _≤_, _<_}
-use native.Mathlib.Nat.{add-assoc, add-mul, mul-assoc, mul-one, mul-le-mul-left, pow-succ', pow-zero, le-trans, le-add-right}
+use Prim.Native.Nat.{ℕ, _+_, _*_, _^_, _≤_}
+use native.Mathlib.Nat.{add-assoc, add-mul, mul-assoc, mul-one, mul-le-mul-left, pow-succ', pow-zero}
 use native.Mathlib.Omega.{arith}
 use lib.ListN.{length}
 use Rattle.codes.specs.Digits.{Digit, numberOf}

@@ -2,17 +2,17 @@
 -- A message's number has p highest, then the free values in base 4, then the top bits in base 2, so that its parts are quotients
 -- and remainders by powers of two.
 -- Assumes nothing.
-use mathlib.Core.Path.{_≡_, refl, sym, ap, ap₂, _∙_, subst}
-use mathlib.Core.Bool.{Bool, true, false}
-use mathlib.Core.List.{List, [], _∷_, map}
-use Prim.Native.Nat.{ℕ, suc, _+_, _*_, _/_, _%_, _^_, _≤_, _<_}
-use native.Mathlib.Nat.{mod-lt, mod-eq-of-lt, div-add-mod', div-div-eq-div-mul, mul-comm, lt-of-lt-of-le}
+use mathlib.Core.Path.{_≡_, sym, ap, ap₂, _∙_, subst}
+use mathlib.Core.Bool.{Bool, true}
+use mathlib.Core.List.{List}
+use Prim.Native.Nat.{ℕ, _+_, _*_, _/_, _%_, _^_, _≤_, _<_}
+use native.Mathlib.Nat.{mod-eq-of-lt, div-add-mod', div-div-eq-div-mul, mul-comm, lt-of-lt-of-le}
 use native.Mathlib.Omega.{arith}
 use lib.Arith.{digits-lt, digits-div, digits-mod, mod-mul}
 use lib.Dec.{eqb, lit<}
 use lib.ListN.{length}
 use lib.Pow.{pow-add, pow-mono, shr-lt}
-use Rattle.symbols.specs.Symbol.{Symbol, bit}
+use Rattle.symbols.specs.Symbol.{bit}
 use Rattle.symbols.specs.Column.{Column, one}
 use Rattle.codes.specs.Digits.{bits, symbols, columns, digits, numberOf}
 use Rattle.codes.specs.Projection.{Projection, count, size, width, topBits, messageBits}

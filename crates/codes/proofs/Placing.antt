@@ -9,7 +9,7 @@ use Prim.Native.Nat.{ℕ, zero, suc, _<_}
 use native.Mathlib.Omega.{arith}
 use lib.Dec.{T}
 use lib.ListN.{length}
-use Rattle.symbols.specs.Symbol.{Symbol, s0, Symbol-discrete, isZero, add}
+use Rattle.symbols.specs.Symbol.{Symbol, s0, Symbol-discrete, isZero}
 use Rattle.symbols.proofs.Every.{symbols, passes, passed, and-left, and-right}
 use Rattle.symbols.proofs.Symbols.{add-comm, add-zero, add-self}
 use Rattle.codes.specs.Vector.{zeros, addV, isZeroV}

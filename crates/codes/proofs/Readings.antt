@@ -11,7 +11,7 @@ use lib.Seq.{drop-cons, getD-take}
 use Rattle.symbols.specs.Symbol.{Symbol, symbolNumber}
 use Rattle.symbols.specs.Column.{Column, value, parity, top, one, columnOf}
 use Rattle.codes.specs.Digits.{bits, symbols, numberOf}
-use Rattle.codes.specs.Projection.{Projection, count, size, topBits, messageBits}
+use Rattle.codes.specs.Projection.{Projection, size, messageBits}
 use Rattle.codes.specs.Message.{chosen, firstParity, butLast, messageIn, messageNumber}
 use Rattle.codes.specs.Walk.{held, highPart}
 use Rattle.codes.proofs.Digits.{bits-fit}

@@ -1,8 +1,8 @@
 -- Strict reading: whether a word is a codeword, by what the walk over its columns collects.
 -- The syndrome is zero where its number is 0; all columns are even where none is odd, and all are odd where as many are as there are.
 -- Assumes nothing.
-use mathlib.Core.Path.{_≡_, refl, sym, ap, ap₂, _∙_, subst}
-use mathlib.Core.Bool.{Bool, true, false, not, _&&_, _||_, Bool·beq, Bool-discrete, false≢true}
+use mathlib.Core.Path.{_≡_, refl, sym, ap, ap₂, _∙_}
+use mathlib.Core.Bool.{Bool, true, false, _&&_, _||_, Bool·beq, false≢true}
 use mathlib.Core.List.{List, [], _∷_, map}
 use Prim.Native.Nat.{ℕ, zero, suc, _^_, _<_}
 use native.Mathlib.Omega.{arith}
@@ -12,10 +12,10 @@ use lib.ListN.{length}
 use Rattle.symbols.specs.Column.{Column, parity}
 use Rattle.codes.specs.Digits.{symbols, digits, numberOf}
 use Rattle.codes.specs.Vector.{zeros, isZeroV}
-use Rattle.codes.specs.Projection.{Projection, TopRule, wanted, count, size}
-use Rattle.codes.specs.Word.{syndromeOf, allParity, topRow, isCodewordOf, isCodeword}
+use Rattle.codes.specs.Projection.{Projection, wanted, count, size}
+use Rattle.codes.specs.Word.{syndromeOf, allParity, isCodeword}
 use Rattle.codes.specs.Walk.{odds, Walked}
-use Rattle.codes.proofs.Digits.{symbols-fit, length-digits, number-again}
+use Rattle.codes.proofs.Digits.{symbols-fit, number-again}
 use Rattle.codes.proofs.Vectors.{zero-zeros, zero-is-zeros}
 use Rattle.codes.proofs.Distance.{wanted-even}
 use Rattle.codes.proofs.Walks.{digits-zero, odds-le}

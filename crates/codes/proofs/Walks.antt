@@ -4,13 +4,13 @@
 use mathlib.Core.Path.{_≡_, refl, sym, ap, ap₂, _∙_, subst₂}
 use mathlib.Core.Bool.{Bool, true, false, not, Bool·beq, Bool-discrete, and-eq-true-iff}
 use mathlib.Core.List.{List, [], _∷_, map}
-use Prim.Native.Nat.{ℕ, zero, suc, _+_, _*_, _/_, _^_, _≤_, _<_}
+use Prim.Native.Nat.{ℕ, zero, suc, _+_, _^_, _≤_, _<_}
 use native.Mathlib.Nat.{zero-div}
 use native.Mathlib.Omega.{arith}
 use borrow.Author.Tests.{eqb-true}
 use lib.Bits.{bitXor}
 use lib.Dec.{eqb}
-use lib.ListN.{length, getD, take, drop, replicate, drop-of-length-le, List·getD-map}
+use lib.ListN.{length, getD, take, drop, drop-of-length-le, List·getD-map}
 use lib.Seq.{drop-cons, drop-length, getD-take, length-take-le}
 use Rattle.symbols.specs.Symbol.{_⊻_, Symbol, symbolOf}
 use Rattle.symbols.specs.Column.{Column, value, parity, top, one, columnOf}
@@ -19,7 +19,7 @@ use Rattle.symbols.proofs.Symbols.{xor-comm}
 use Rattle.symbols.proofs.Columns.{one-le}
 use Rattle.codes.specs.Digits.{symbols, digits, numberOf}
 use Rattle.codes.specs.Vector.{zeros, addV, scale}
-use Rattle.codes.specs.Projection.{Projection, size, count}
+use Rattle.codes.specs.Projection.{Projection, size}
 use Rattle.codes.specs.Word.{syndrome, topRow}
 use Rattle.codes.specs.Walk.{held, odds, Walked}
 use Rattle.codes.proofs.Digits.{symbols-fit, digits-again}

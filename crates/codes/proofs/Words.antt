@@ -3,15 +3,15 @@
 use mathlib.Core.Path.{_≡_, refl, sym, ap, ap₂, _∙_}
 use mathlib.Core.Bool.{Bool, true, false, _&&_, _||_, Bool·beq, Bool-discrete, and-eq-true-iff}
 use mathlib.Core.List.{List, [], _∷_, map}
-use Prim.Native.Nat.{ℕ, suc}
+use Prim.Native.Nat.{suc}
 use native.Mathlib.Omega.{arith}
 use lib.ListN.{length}
-use Rattle.symbols.specs.Symbol.{_⊻_, Symbol, add}
+use Rattle.symbols.specs.Symbol.{_⊻_, add}
 use Rattle.symbols.specs.Column.{Column, value, parity, top, _⊕_}
 use Rattle.symbols.proofs.Every.{bits, _⊗_, law, implied, passes, passed}
 use Rattle.symbols.proofs.Columns.{value-add, parity-add, top-add}
 use Rattle.codes.specs.Vector.{addV, isZeroV}
-use Rattle.codes.specs.Projection.{Projection, TopRule, ruleO, ruleE, wanted, size}
+use Rattle.codes.specs.Projection.{Projection, TopRule, ruleO, ruleE, wanted}
 use Rattle.codes.specs.Word.{_⊞_, syndrome, syndromeOf, allParity, topRow, isCodewordOf, isCodeword}
 use Rattle.codes.proofs.Vectors.{zero-add, syndrome-add}
 

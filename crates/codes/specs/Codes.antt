@@ -1,6 +1,6 @@
 -- The four codes by their numbers, and what each word call answers (document 01, 'The four codes' and 'Refusals by what comes back').
 -- Assumes nothing.
-use mathlib.Core.Bool.{Bool, not, cond, _&&_, _||_}
+use mathlib.Core.Bool.{Bool, not, cond, _&&_}
 use mathlib.Core.List.{List, [], _∷_}
 use Prim.Native.Nat.{ℕ, _-_, _/_, _^_}
 use lib.Dec.{leb}

@@ -1,5 +1,6 @@
 // Mending, tried against a search through all codewords: each codeword of a code is made once and held against every word that is
-// tried. Document 01's words that are no theorems are among them, and are shown.
+// tried, by `correct` and by a read of a slot that holds it. Document 01's words that are no theorems are among them, and are shown.
+mod lists;
 mod samples;
 
 use codes::Corrected;
@@ -127,8 +128,9 @@ fn words_with(near: &[u64; 52], n: u64) -> u64 {
     count
 }
 
-// The words of which `correct` says something else than the search.
+// How often `correct`, or a read, says something else than the search.
 fn disagreements(
+    b: &[u8; 580],
     code: u64,
     words: &[u64; 52],
     marks: &[u64; 52],
@@ -138,21 +140,26 @@ fn disagreements(
     let mut count: u64 = 0;
     let mut j: usize = 0;
     while j < WORDS {
-        count = count + counted(!agrees(code, words[j], marks[j], near[j], kept[j]));
+        let mended = agrees(code, words[j], marks[j], near[j], kept[j]);
+        let read = lists::agrees(b, code, j as u64, words[j], marks[j], near[j], kept[j]);
+        count = count + counted(!mended) + counted(!read);
         j += 1;
     }
     count
 }
 
-// Tries a code: how many of the words are mended, how many refused, and in how many the search and `correct` disagree.
+// Tries a code: how many of the words are mended, how many refused, and how often the search and the library disagree.
 fn report(code: u64, width: u64, limit: u64)
     requires { ⌜ (8 ≤ width) × (width ≤ 40) × (0 < limit) ⌝ }
 {
+    let mut b = [0u8; 580];
+    let mut messages = [0u64; 52];
     let mut words = [0u64; 52];
     let mut marks = [0u64; 52];
     let mut near = [0u64; 52];
     let mut kept = [0u64; 52];
-    prepare(code, width, limit, &mut words, &mut marks);
+    prepare(code, width, limit, &mut messages, &mut words, &mut marks);
+    lists::fill(&mut b, code, width, &messages, &words, &marks);
     search(code, limit, &words, &marks, &mut near, &mut kept);
     text(b"code ");
     decimal(code);
@@ -161,7 +168,7 @@ fn report(code: u64, width: u64, limit: u64)
     text(b", refused ");
     decimal(words_with(&near, 0));
     text(b", disagreements ");
-    decimal(disagreements(code, &words, &marks, &near, &kept));
+    decimal(disagreements(&b, code, &words, &marks, &near, &kept));
     text(b"\n");
 }
 

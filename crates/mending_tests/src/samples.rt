@@ -47,7 +47,7 @@ fn spread(width: u64, start: u64, skip: u64, count: u64) -> u64
 }
 
 // The codeword of a message, or 0.
-fn codeword(code: u64, message: u64) -> u64 {
+pub fn codeword(code: u64, message: u64) -> u64 {
     let Encoded::Word(w) = codes::encode(code, message) else {
         return 0;
     };
@@ -62,7 +62,14 @@ fn least(a: u64, b: u64) -> u64
 }
 
 // Four words for each sum from 0 to 10, at distances and with marks that make it up; half of the marked bits are inverted.
-fn around_codewords(code: u64, width: u64, limit: u64, words: &mut [u64; 52], marks: &mut [u64; 52])
+fn around_codewords(
+    code: u64,
+    width: u64,
+    limit: u64,
+    messages: &mut [u64; 52],
+    words: &mut [u64; 52],
+    marks: &mut [u64; 52],
+)
     requires { ⌜ (0 < width) × (width ≤ 40) × (0 < limit) ⌝ }
 {
     let mut state: u64 = 2026;
@@ -72,21 +79,32 @@ fn around_codewords(code: u64, width: u64, limit: u64, words: &mut [u64; 52], ma
         let wrong = least((j / 11) as u64, sum / 2);
         let marked = sum - 2 * wrong;
         state = draw(state);
-        let c = codeword(code, state % limit);
+        let message = state % limit;
         state = draw(state);
-        words[j] = c ^ spread(width, state, 0, wrong + marked / 2);
+        messages[j] = message;
+        words[j] = codeword(code, message) ^ spread(width, state, 0, wrong + marked / 2);
         marks[j] = spread(width, state, wrong, marked);
         j += 1;
     }
 }
 
-// The words that are tried, and their marks: words around codewords, words four and five positions on the way from one codeword to
-// another that is eight away, noise, and document 01's words.
-pub fn prepare(code: u64, width: u64, limit: u64, words: &mut [u64; 52], marks: &mut [u64; 52])
+// The words that are tried, their marks, and the messages that they come from: words around codewords, words four and five positions on the
+// way from one codeword to another that is eight away, noise, and document 01's words.
+pub fn prepare(
+    code: u64,
+    width: u64,
+    limit: u64,
+    messages: &mut [u64; 52],
+    words: &mut [u64; 52],
+    marks: &mut [u64; 52],
+)
     requires { ⌜ (8 ≤ width) × (width ≤ 40) × (0 < limit) ⌝ }
 {
-    around_codewords(code, width, limit, words, marks);
-    let c = codeword(code, 314159 % limit);
+    around_codewords(code, width, limit, messages, words, marks);
+    let message = 314159 % limit;
+    let c = codeword(code, message);
+    messages[44] = message;
+    messages[45] = message;
     words[44] = c ^ (0x0Fu64 << (width - 8));
     words[45] = c ^ (0x1Fu64 << (width - 8));
     words[46] = draw(1);

@@ -2,7 +2,7 @@
 -- and value, and above by the weights of summands. Each is a test over all columns. Assumes nothing.
 use mathlib.Core.Path.{_≡_, ap₂}
 use mathlib.Core.Bool.{Bool, true, false, not, _&&_, Bool-discrete}
-use Prim.Native.Nat.{ℕ, _+_, _*_, _≤_}
+use Prim.Native.Nat.{_+_, _*_, _≤_}
 use lib.Dec.{leb, leb→le, eqb, eqb→eq}
 use Rattle.symbols.specs.Symbol.{_⊻_, Symbol, Symbol-discrete, isZero, add}
 use Rattle.symbols.specs.Column.{Column, Column-discrete, value, parity, top, one, weight, _⊕_, columnWith}

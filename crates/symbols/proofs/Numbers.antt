@@ -1,13 +1,13 @@
 -- Symbols and columns as numbers: there and back, modulo 4 and 16, and tables that are indexed by such numbers.
 -- Assumes nothing.
-use mathlib.Core.Path.{_≡_, sym, ap, ap₂, _∙_}
-use mathlib.Core.Bool.{Bool, Bool-discrete}
-use Prim.Native.Nat.{ℕ, suc, _+_, _%_, _^_, _<_}
+use mathlib.Core.Path.{_≡_, ap, ap₂, _∙_}
+use mathlib.Core.Bool.{Bool-discrete}
+use Prim.Native.Nat.{ℕ, _+_, _%_, _^_, _<_}
 use native.Mathlib.Nat.{mod-lt}
 use lib.Dec.{T, eqb, eqb→eq, ltb, ltb→lt, lit<}
 use lib.Pow.{field, mod-mod-pow}
 use Rattle.symbols.specs.Symbol.{Symbol, Symbol-discrete, symbol, symbolNumber, symbolOf, bit}
-use Rattle.symbols.specs.Column.{Column, Column-discrete, column, columnOf, columnNumber}
+use Rattle.symbols.specs.Column.{Column, Column-discrete, columnOf, columnNumber}
 use Rattle.symbols.proofs.Every.{symbols, columns, below, at-below, passes, law, law-below, number-discrete}
 
 pub symbol-of-number : (s : Symbol) → symbolOf (symbolNumber s) ≡ s

@@ -2,7 +2,7 @@
 -- Each is a test over all symbols, and so are the same laws of bits. Assumes nothing.
 use mathlib.Core.Path.{_≡_}
 use mathlib.Core.Bool.{Bool, false, Bool-discrete, _||_}
-use Rattle.symbols.specs.Symbol.{_⊻_, Symbol, s0, s1, Symbol-discrete, isZero, add, mul}
+use Rattle.symbols.specs.Symbol.{_⊻_, Symbol, s0, Symbol-discrete, isZero, add, mul}
 use Rattle.symbols.proofs.Every.{bits, symbols, _⊗_, law}
 
 pub xor-assoc : (a b c : Bool) → (a ⊻ b) ⊻ c ≡ a ⊻ (b ⊻ c)

@@ -24,10 +24,6 @@ overwrite-after pre rest new n e = rw (take-at pre rest n e, ← e, drop-append-
 pub overwrite-middle : (pre old new post : List ℕ) (n : ℕ) → length pre ≡ n → length new ≡ length old → overwrite (pre ++ (old ++ post)) n new ≡ pre ++ (new ++ post)
 overwrite-middle pre old new post n e h = overwrite-after pre (old ++ post) new n e ∙ rw (drop-at old post (length new) (sym h))
 
-pub length-overwrite : (b new : List ℕ) (at : ℕ) → at + length new ≤ length b → length (overwrite b at new) ≡ length b
-unfolding overwrite
-length-overwrite b new at h = simp (length-append, length-take, length-drop) (omega arith)
-
 -- what is written stands between what lies before it and what follows
 overwrite-split : (b xs : List ℕ) (at : ℕ) → overwrite b at xs ≡ (take at b ++ xs) ++ drop (at + length xs) b
 unfolding overwrite

@@ -1,6 +1,5 @@
 // The trace calls, tried: each refusal, also where a later one applies too, and the boundaries of every number; whether any byte changed;
-// surveys; and random lists of calls whose reads are held against a search through all codewords.
-mod lists;
+// and surveys.
 mod show;
 
 use show::bytes_changed;
@@ -322,8 +321,4 @@ fn main() {
     reads(3);
     reads(4);
     surveys();
-    lists::report(1, 36, 524288);
-    lists::report(2, 36, 524288);
-    lists::report(3, 40, 4194304);
-    lists::report(4, 40, 4194304);
 }

@@ -1,6 +1,6 @@
 -- `codes::encode` meets its contract: the code that its number stands for, or the refusal.
 -- Assumes nothing.
-use mathlib.Core.Path.{_≡_, sym, _∙_}
+use mathlib.Core.Path.{sym, _∙_}
 use borrow.Author.Needs.{needs}
 use Rattle.codes.specs.Codes.{writing}
 use Rattle.codes.proofs.Answers.{under-unknown, under-known}

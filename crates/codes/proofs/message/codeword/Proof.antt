@@ -1,9 +1,7 @@
 -- `codes::message::codeword` meets its contract: the draft without the other values has the syndrome that these must have.
 -- Assumes nothing.
-use mathlib.Core.Path.{_≡_, ap, _∙_}
-use mathlib.Core.List.{List}
+use mathlib.Core.Path.{ap, _∙_}
 use borrow.Author.Needs.{needs}
-use Rattle.symbols.specs.Column.{Column}
 use Rattle.codes.specs.Word.{syndromeOf}
 use Rattle.codes.specs.Codes.{projection}
 use Rattle.codes.proofs.Codes.{systematic}

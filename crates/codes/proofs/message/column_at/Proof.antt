@@ -1,15 +1,13 @@
 -- `codes::message::column_at` meets its contract.
 -- Assumes nothing.
-use mathlib.Core.Path.{_≡_, ap, ap₂, _∙_}
+use mathlib.Core.Path.{ap, ap₂, _∙_}
 use mathlib.Core.Bool.{Bool}
-use Prim.Native.Nat.{ℕ, _-_, _/_, _^_}
+use Prim.Native.Nat.{ℕ, _-_}
 use native.Mathlib.Omega.{arith}
 use borrow.Author.Needs.{needs}
-use lib.ListN.{drop}
 use Rattle.symbols.specs.Symbol.{Symbol, bit, symbolOf}
 use Rattle.symbols.specs.Column.{columnOf, columnWith}
 use Rattle.symbols.proofs.Numbers.{column-of-number}
-use Rattle.codes.specs.Codes.{projection}
 use Rattle.codes.proofs.Codes.{bits-le}
 use Rattle.codes.proofs.message.column_at.Statement.{statement}
 use Rattle.codes.proofs.message.column_at.Tie as tie

@@ -11,7 +11,6 @@ use lib.ListN.{length, take, drop, set, length-set}
 use Rattle.symbols.specs.Symbol.{_⊻_, bit}
 use Rattle.symbols.specs.Column.{Column, columnOf, columnWith}
 use Rattle.symbols.proofs.Symbols.{xor-comm}
-use Rattle.codes.specs.declared.code.Code.{Code}
 use Rattle.codes.specs.Projection.{Projection, wanted, size, count, topBits}
 use Rattle.codes.specs.Codes.{projection}
 use Rattle.codes.specs.Walk.{valueAt, drafted}

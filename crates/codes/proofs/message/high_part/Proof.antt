@@ -1,9 +1,9 @@
 -- `codes::message::high_part` meets its contract: the number so far, followed by the free values that are left, is the whole.
 -- Assumes nothing.
-use mathlib.Core.Path.{_≡_, sym, ap, ap₂, _∙_, subst}
-use mathlib.Core.Bool.{Bool, false, cond}
+use mathlib.Core.Path.{_≡_, sym, ap, ap₂, _∙_}
+use mathlib.Core.Bool.{Bool, cond}
 use mathlib.Core.List.{List, map}
-use Prim.Native.Nat.{ℕ, suc, _+_, _-_, _*_, _^_, _≤_, _<_}
+use Prim.Native.Nat.{ℕ, _+_, _-_, _*_, _^_, _≤_, _<_}
 use native.Mathlib.Nat.{lt-of-lt-of-le}
 use native.Mathlib.Omega.{arith}
 use native.Mathlib.Numerals.{add-one}
@@ -14,7 +14,7 @@ use Rattle.symbols.specs.Symbol.{symbolNumber}
 use Rattle.symbols.specs.Column.{value, one, columnOf}
 use Rattle.symbols.proofs.Columns.{one-le}
 use Rattle.codes.specs.Digits.{symbols}
-use Rattle.codes.specs.Projection.{size, messageBits}
+use Rattle.codes.specs.Projection.{size}
 use Rattle.codes.specs.Message.{chosen}
 use Rattle.codes.specs.Codes.{projection}
 use Rattle.codes.specs.Walk.{held, highPart}

@@ -1,16 +1,15 @@
 -- `codes::message::message_in` meets its contract: the number so far, followed by the top bits that are left, is the whole.
 -- Assumes nothing.
 use mathlib.Core.Path.{_≡_, sym, ap, ap₂, _∙_}
-use mathlib.Core.Bool.{Bool}
-use mathlib.Core.List.{List, map}
+use mathlib.Core.List.{map}
 use Prim.Native.Nat.{ℕ, suc, _+_, _-_, _*_, _^_, _≤_, _<_}
 use native.Mathlib.Nat.{lt-of-lt-of-le}
 use native.Mathlib.Omega.{arith}
 use native.Mathlib.Numerals.{add-one}
 use borrow.Author.Needs.{needs}
-use lib.ListN.{length, getD, drop, drop-of-length-le}
+use lib.ListN.{length, drop, drop-of-length-le}
 use lib.Pow.{pow-mono}
-use Rattle.symbols.specs.Column.{top, one, columnOf}
+use Rattle.symbols.specs.Column.{top, one}
 use Rattle.symbols.proofs.Columns.{one-le}
 use Rattle.codes.specs.Digits.{bits}
 use Rattle.codes.specs.Projection.{size, topBits}

@@ -3,10 +3,10 @@
 use mathlib.Core.Path.{_≡_, sym, ap, ap₂, _∙_}
 use mathlib.Core.Bool.{not}
 use mathlib.Core.List.{map}
-use Prim.Native.Nat.{ℕ, suc, _+_, _-_, _*_, _/_, _%_, _^_, _≤_, _<_}
+use Prim.Native.Nat.{ℕ, suc, _+_, _-_, _*_, _/_, _^_}
 use native.Mathlib.Omega.{arith}
 use borrow.Author.Needs.{needs}
-use lib.ListN.{length, drop}
+use lib.ListN.{drop}
 use Rattle.symbols.specs.Symbol.{symbolOf}
 use Rattle.symbols.proofs.Numbers.{symbol-mod}
 use Rattle.codes.specs.Projection.{size, count, topBits}

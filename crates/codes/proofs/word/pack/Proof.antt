@@ -1,13 +1,12 @@
 -- `codes::word::pack` meets its contract: the number so far, followed by the columns that are left, is the whole.
 -- Assumes nothing.
-use mathlib.Core.Path.{_≡_, sym, ap, ap₂, _∙_, subst}
-use mathlib.Core.List.{List, []}
+use mathlib.Core.Path.{_≡_, sym, ap, _∙_}
 use Prim.Native.Nat.{ℕ, suc, _+_, _-_, _*_, _%_, _^_, _≤_, _<_}
 use native.Mathlib.Omega.{arith}
 use native.Mathlib.Numerals.{add-one}
 use borrow.Author.Needs.{needs}
 use lib.ListN.{getD, drop, drop-of-length-le}
-use Rattle.symbols.specs.Column.{Column, columnOf}
+use Rattle.symbols.specs.Column.{columnOf}
 use Rattle.codes.specs.Digits.{columns}
 use Rattle.codes.specs.Projection.{size}
 use Rattle.codes.specs.Word.{wordNumber}

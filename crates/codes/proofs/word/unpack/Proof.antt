@@ -1,7 +1,7 @@
 -- `codes::word::unpack` meets its contract. With k columns stored, they are the lowest k digits of the word, and what is left is the
 -- word divided by 16 to the power k.
 -- Assumes nothing.
-use mathlib.Core.Path.{_≡_, refl, sym, ap, ap₂, _∙_, subst}
+use mathlib.Core.Path.{_≡_, refl, sym, ap, ap₂, _∙_}
 use mathlib.Core.List.{map}
 use Prim.Native.Nat.{ℕ, suc, _-_, _/_, _%_, _^_, _≤_}
 use native.Mathlib.Nat.{div-one}

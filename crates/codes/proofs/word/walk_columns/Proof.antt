@@ -7,7 +7,7 @@ use Prim.Native.Nat.{ℕ, suc, _+_, _-_, _≤_}
 use native.Mathlib.Omega.{arith}
 use borrow.Author.Needs.{needs}
 use lib.Bits.{bitXor}
-use lib.ListN.{length, getD, drop}
+use lib.ListN.{getD, drop}
 use Rattle.symbols.specs.Symbol.{Symbol, symbolOf}
 use Rattle.symbols.specs.Column.{value, parity, one, columnOf}
 use Rattle.symbols.proofs.Columns.{one-le}

@@ -7,10 +7,10 @@ use Rattle.mending_tests.proofs.samples.around_codewords.Statement.{sta
 use Rattle.mending_tests.proofs.samples.around_codewords.Tie as tie
 
 abbrev Inv-loop : tie.InvT-loop
-Inv-loop code width limit words₀ marks₀ state₀ j₀ words marks state j = j ≤ 44
+Inv-loop code width limit messages₀ words₀ marks₀ state₀ j₀ messages words marks state j = j ≤ 44
 
 abbrev μ-loop : tie.MeasureT-loop
-μ-loop code width limit words₀ marks₀ state₀ j₀ words marks state j = 44 - j
+μ-loop code width limit messages₀ words₀ marks₀ state₀ j₀ messages words marks state j = 44 - j
 
 loop-holds : tie.Need-loop-holds Inv-loop μ-loop
 loop-holds c = omega arith
@@ -27,14 +27,20 @@ sub-marked c = omega arith
 draw-requires : tie.Need-draw-requires Inv-loop μ-loop
 draw-requires c κs = search needs
 
-rem-codeword : tie.Need-rem-codeword Inv-loop μ-loop
-rem-codeword c = omega arith
-
-codeword-requires : tie.Need-codeword-requires Inv-loop μ-loop
-codeword-requires c κs = search needs
+rem-message : tie.Need-rem-message Inv-loop μ-loop
+rem-message c = omega arith
 
 draw-requires-2 : tie.Need-draw-requires-2 Inv-loop μ-loop
 draw-requires-2 c κs = search needs
+
+mul-messages : tie.Need-mul-messages Inv-loop μ-loop
+mul-messages c = omega arith
+
+element-write-messages : tie.Need-element-write-messages Inv-loop μ-loop
+element-write-messages c = omega arith
+
+codeword-requires : tie.Need-codeword-requires Inv-loop μ-loop
+codeword-requires c κs = search needs
 
 add-spread : tie.Need-add-spread Inv-loop μ-loop
 add-spread c = omega arith
@@ -80,9 +86,11 @@ around-codewords-spec =
     mul-marked
     sub-marked
     draw-requires
-    rem-codeword
-    codeword-requires
+    rem-message
     draw-requires-2
+    mul-messages
+    element-write-messages
+    codeword-requires
     add-spread
     spread-requires
     mul-words

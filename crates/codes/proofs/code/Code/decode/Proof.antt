@@ -1,13 +1,13 @@
 -- `codes::Code::decode` meets its contract: the rows of its refusals in order, and the message that the columns say.
 -- Assumes nothing.
-use mathlib.Core.Path.{_≡_, sym, ap, _∙_, subst}
-use mathlib.Core.Bool.{Bool, true, false, not}
+use mathlib.Core.Path.{sym, ap, _∙_, subst}
+use mathlib.Core.Bool.{not}
 use mathlib.Core.List.{List, [], _∷_}
 use Prim.Native.Nat.{ℕ, _^_, _≤_, _<_}
 use borrow.Author.Needs.{needs}
 use borrow.Author.Tests.{le-leb, lt-leb}
 use Rattle.symbols.specs.Column.{Column}
-use Rattle.codes.specs.Answer.{Answer, accepted, unless}
+use Rattle.codes.specs.Answer.{accepted}
 use Rattle.codes.specs.Projection.{width}
 use Rattle.codes.specs.Word.{word, isCodeword}
 use Rattle.codes.specs.Message.{messageIn, messageNumber, decode}

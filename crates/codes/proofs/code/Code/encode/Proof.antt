@@ -1,11 +1,10 @@
 -- `codes::Code::encode` meets its contract: the one row of its refusals, and the codeword's columns as a number.
 -- Assumes nothing.
-use mathlib.Core.Path.{_≡_, sym, ap, _∙_, subst}
-use mathlib.Core.List.{List, [], _∷_}
+use mathlib.Core.Path.{sym, ap, _∙_, subst}
+use mathlib.Core.List.{[], _∷_}
 use Prim.Native.Nat.{ℕ, _^_, _≤_, _<_}
 use borrow.Author.Needs.{needs}
 use borrow.Author.Tests.{le-leb, lt-leb}
-use Rattle.symbols.specs.Column.{Column}
 use Rattle.codes.specs.Answer.{accepted}
 use Rattle.codes.specs.Projection.{messageBits}
 use Rattle.codes.specs.Word.{wordNumber}
