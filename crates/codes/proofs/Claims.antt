@@ -1,7 +1,9 @@
--- The claims of specs/Claims.antt, each from the law that shows it for every code that is systematic and whose codewords are apart.
+-- The claims of specs/Claims.antt, each from the law that shows it for every code that is systematic and whose codewords are apart; what is
+-- refused has the number of a row of its call's table, or is a mending's 5.
 -- Assumes nothing.
 use mathlib.Core.Path.{_≡_, refl, sym, ap, _∙_, subst}
 use mathlib.Core.Bool.{Bool, true, false, not}
+use mathlib.Core.Logic.{inl, inr, ⊎-elim}
 use mathlib.Core.List.{List, [], _∷_}
 use Prim.Native.Nat.{ℕ, _+_, _*_, _^_, _≤_, _<_}
 use native.Mathlib.Omega.{arith}
@@ -17,15 +19,16 @@ use Rattle.codes.specs.Projection.{size, width}
 use Rattle.codes.specs.Word.{word, isCodeword, distance}
 use Rattle.codes.specs.Message.{encode, decode}
 use Rattle.codes.specs.Mending.{wrong, ones, Mended, near, none, mend}
-use Rattle.codes.specs.Codes.{projection, reading, notACodeword, mendedAnswer, mending}
+use Rattle.codes.specs.Codes.{projection, codeOf, reading, unknownCode, messageTooLarge, wordTooWide, notACodeword, mendedAnswer, mending}
 use Rattle.codes.specs.Search.{Near}
-use Rattle.codes.specs.Claims.{IsCodeword, RoundTrip, OneMessage, StrictReading, SumOfCodewords, EightApart, IsNear, OneNear, EightIsFar, MendsNear, RefusesFar, Starred}
+use Rattle.codes.specs.Claims.{IsCodeword, RoundTrip, OneMessage, StrictReading, SumOfCodewords, EightApart, IsNear, OneNear, EightIsFar, MendsNear, RefusesFar, Starred, WordCallsRefuse}
 use Rattle.codes.proofs.Digits.{length-digits}
 use Rattle.codes.proofs.Words.{parity-of, is-codeword, codeword-sum}
 use Rattle.codes.proofs.Distance.{close-same}
 use Rattle.codes.proofs.Messages.{encode-below, encode-codeword, decode-encode, decode-below, encode-decode, same-columns}
 use Rattle.codes.proofs.Codes.{systematic, apart}
 use Rattle.codes.proofs.Answers.{row-met, row-passed}
+use Rattle.codes.proofs.Rows.{not-refused, refused-by, refused-by-rows}
 use Rattle.codes.proofs.Mends as mends
 use Rattle.codes.proofs.Mends.{mended, mend-near, mend-none, mending-fits}
 
@@ -151,3 +154,25 @@ starred =
     & mends-near O36 0xE00000000 0x080000000 (lit< tt) (lit< tt) .0 0 ((lit< tt, refl), refl)
     & lost-sample O36 0xE00000000 0x0C0000000 0 (lit< tt) (lit< tt) (lit< tt, refl) refl
     & tt
+
+-- ---- refusals
+
+mended-five : (x : Mended) (n : ℕ) → mendedAnswer x ≡ refused n → n ≡ 5
+mended-five (near c m w k) n e = not-refused _ n e
+mended-five none n e = cc
+
+pub word-calls-refuse : WordCallsRefuse
+word-calls-refuse =
+    record {
+      writings = λ code message n e. refused-by-rows (unknownCode code ∷ messageTooLarge (projection (codeOf code)) message ∷ []) _ n e;
+      readings =
+          λ code word n e.
+          refused-by-rows (unknownCode code ∷ wordTooWide (projection (codeOf code)) word ∷ notACodeword (projection (codeOf code)) word ∷ []) _ n e;
+      mendings =
+          λ code word marks n e.
+          ⊎-elim
+          (⊎-elim (λ k. inl k) (⊎-elim (λ k. inr (inl k)) (⊎-elim (λ k. inr (inl k)) (λ k. absurd k))))
+          (λ k. inr (inr (inl (mended-five (mend (projection (codeOf code)) word marks) n k))))
+          (refused-by (unknownCode code ∷ wordTooWide (projection (codeOf code)) word ∷ wordTooWide (projection (codeOf code)) marks ∷ [])
+          (mendedAnswer (mend (projection (codeOf code)) word marks)) n e);
+    }

@@ -1,24 +1,34 @@
--- What the layers above may cite: the limits of each code, and mending by its messages.
+-- What the layers above may cite: the limits of each code, its number, word calls whose numbers fit, and mending by its messages.
 -- A word that is a message's codeword with positions f inverted has that codeword's wrong positions where f is not marked.
 -- Assumes nothing.
 use mathlib.Core.Path.{_≡_, refl, sym, ap, _∙_, subst}
+use mathlib.Core.Bool.{Bool, true, false, cond}
+use mathlib.Core.List.{[], _∷_}
 use Prim.Native.Nat.{ℕ, _+_, _*_, _^_, _≤_, _<_}
 use native.Mathlib.Omega.{arith}
 use lib.Bits.{bitXor}
-use lib.Dec.{lit<}
+use lib.Dec.{leb, lit<}
+use lib.ListN.{length}
+use borrow.Author.Tests.{lt-leb, leb-true}
 use Rattle.codes.specs.declared.code.Code.{Code}
 use Rattle.codes.specs.declared.code.Code.the-variants.{O36, E36, O40, E40}
-use Rattle.codes.specs.Projection.{width, messageBits}
-use Rattle.codes.specs.Codes.{projection, stepLimit}
+use Rattle.codes.specs.declared.code.CodeFound.{CodeFound}
+use Rattle.codes.specs.declared.answer.Refusal.{Refusal}
+use Rattle.codes.specs.declared.answer.Refusal.the-variants.{UnknownCode}
+use Rattle.codes.specs.Answer.{accepted, refused}
+use Rattle.codes.specs.Projection.{Projection, width, messageBits}
+use Rattle.codes.specs.Codes.{projection, codes, isCode, codeOf, codeFound, stepLimit, writing, mendedAnswer}
 use Rattle.codes.specs.Word.{word}
 use Rattle.codes.specs.Message.{encode, decode}
-use Rattle.codes.specs.Mending.{outside, wrong, ones, near, none, mend}
+use Rattle.codes.specs.Mending.{outside, wrong, ones, Mended, near, none, mend}
 use Rattle.codes.specs.Search.{Near}
 use Rattle.codes.proofs.Messages.{encode-below, encode-codeword, decode-encode, decode-below, encode-decode}
 use Rattle.codes.proofs.Codes.{systematic, apart}
 use Rattle.codes.proofs.Mends as mends
--- numbers that the layers above need to fit
+use Rattle.codes.proofs.Rows.{and-true, not-refused}
+-- the widths and message sizes, at most; and mending, where none of its other refusals is met
 pub use Rattle.codes.proofs.Codes.{width-le, bits-le}
+pub use Rattle.codes.proofs.Mends.{mending-fits}
 
 pub width-pos : (c : Code) → 0 < width (projection c)
 width-pos O36 = lit< tt
@@ -95,3 +105,37 @@ none-mend c w m empty =
     let back = encode-decode π (systematic c) y (close .fits) (close .codeword) in
     empty (decode π y) (decode-below π (systematic c) y (close .fits) (close .codeword))
     (subst (λ (z : ℕ). 2 * wrong π w m z + ones π m ≤ 7) (sym back) (mends.near-sum π w m y (close .near)))
+
+-- ---- a code's number
+
+pub code-lt : (n : ℕ) → isCode n ≡ true → n < 256
+code-lt n e = let few = leb-true n (length codes) (and-true (leb 1 n) (leb n (length codes)) e .1) in omega arith
+
+pub code-known : (n : ℕ) (c : Code) → codeFound n ≡ CodeFound.Code c → (isCode n ≡ true) × (c ≡ codeOf n)
+code-known n c e = go (isCode n) refl e
+  where
+    go : (t : Bool) → isCode n ≡ t → cond t (CodeFound.Code (codeOf n)) (CodeFound.Refused UnknownCode) ≡ CodeFound.Code c
+        → (isCode n ≡ true) × (c ≡ codeOf n)
+    go true t e = (t, cc)
+    go false t e = let z : _≡_ {A = ℕ} 0 1 = cc in absurd (omega arith)
+
+pub code-unknown : (n : ℕ) (r : Refusal) → codeFound n ≡ CodeFound.Refused r → isCode n ≡ false
+code-unknown n r e = go (isCode n) refl e
+  where
+    go : (t : Bool) → isCode n ≡ t → cond t (CodeFound.Code (codeOf n)) (CodeFound.Refused UnknownCode) ≡ CodeFound.Refused r → isCode n ≡ false
+    go true t e = let z : _≡_ {A = ℕ} 0 1 = cc in absurd (omega arith)
+    go false t e = t
+
+-- ---- word calls whose numbers fit
+
+pub writing-fits : (π : Projection) (n : ℕ) → n < 2 ^ messageBits π → writing π n ≡ accepted (encode π n ∷ [])
+writing-fits π n h = simp (lt-leb _ _ h)
+
+-- what mending found, by its answer
+pub answer-near : (x : Mended) (c m w k : ℕ) → accepted (c ∷ m ∷ w ∷ k ∷ []) ≡ mendedAnswer x → x ≡ near c m w k
+answer-near (near c′ m′ w′ k′) c m w k e = cc
+answer-near none c m w k e = not-refused _ _ e
+
+pub answer-none : (x : Mended) (n : ℕ) → refused n ≡ mendedAnswer x → x ≡ none
+answer-none (near c m w k) n e = not-refused _ _ (sym e)
+answer-none none n e = refl

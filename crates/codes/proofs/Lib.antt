@@ -22,3 +22,4 @@ pub mod Searches
 pub mod Tables
 pub mod Mends
 pub mod Laws
+pub mod Rows

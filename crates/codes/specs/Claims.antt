@@ -1,17 +1,18 @@
--- The claims about the four codes (demand 2; document 01, 'The four codes' and 'Mending'). Each is one definition, and one theorem of the same
--- name in proofs/Claims.antt. They speak of the definitions, and so, by the contracts, of the functions.
+-- The claims about the four codes (demand 2 and the word calls' part of demand 1; document 01, 'The four codes', 'Mending' and 'Refusals by what
+-- comes back'). Each is one definition, and one theorem of the same name in proofs/Claims.antt. They speak of the definitions, and so, by the contracts, of the functions.
 -- Assumes nothing.
 use mathlib.Core.Path.{_≡_}
 use mathlib.Core.Bool.{true}
+use mathlib.Core.Logic.{_⊎_}
 use mathlib.Core.List.{List, [], _∷_}
 use Prim.Native.Nat.{ℕ, _+_, _*_, _^_, _≤_, _<_}
 use Rattle.codes.specs.declared.code.Code.{Code}
-use Rattle.codes.specs.Answer.{accepted, refused}
+use Rattle.codes.specs.Answer.{Answer, accepted, refused}
 use Rattle.codes.specs.Projection.{width, messageBits}
 use Rattle.codes.specs.Word.{word, isCodeword, _⊞_, distance}
 use Rattle.codes.specs.Message.{encode, decode}
 use Rattle.codes.specs.Mending.{wrong, ones, isNear}
-use Rattle.codes.specs.Codes.{projection, reading, mending}
+use Rattle.codes.specs.Codes.{projection, writing, reading, mending, under}
 use Rattle.codes.specs.Starred.{starredWords, Each}
 
 -- a number that is a codeword of a code
@@ -82,3 +83,19 @@ RefusesFar =
 -- 'Starred ones are theorems'
 abbrev pub Starred : Type 0
 Starred = Each starredWords
+
+-- ---- the word calls' part of demand 1
+
+-- a number stands in a list
+abbrev pub Among : ℕ → List ℕ → Type 0
+Among n [] = ⊥
+Among n (x ∷ xs) = (n ≡ x) ⊎ Among n xs
+
+abbrev pub RefusedBy : List ℕ → Answer → Type 0
+RefusedBy numbers a = (n : ℕ) → a ≡ refused n → Among n numbers
+
+-- 'Unfit input gets one of the thirteen refusal numbers of document 01': those that its table gives each word call
+pub record WordCallsRefuse : Type 0 where
+  pub writings : (code message : ℕ) → RefusedBy (1 ∷ 2 ∷ []) (under code (λ π. writing π message))
+  pub readings : (code word : ℕ) → RefusedBy (1 ∷ 3 ∷ 4 ∷ []) (under code (λ π. reading π word))
+  pub mendings : (code word marks : ℕ) → RefusedBy (1 ∷ 3 ∷ 5 ∷ []) (under code (λ π. mending π word marks))

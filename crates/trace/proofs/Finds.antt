@@ -6,10 +6,12 @@ use mathlib.Core.Path.{_≡_, _∙_}
 use mathlib.Core.Bool.{true, false}
 use mathlib.Core.List.{List, [], _∷_}
 use native.Mathlib.Omega.{arith}
+use lib.Dec.{leb}
 use lib.ListN.{length}
-use borrow.Author.Tests.{le-ltb, le-leb, lt-leb, eq-eqb, ne-eqb}
+use borrow.Author.Tests.{le-ltb, le-leb, lt-leb, leb-true, eq-eqb, ne-eqb}
 use Rattle.codes.specs.Answer.{unless}
 use Rattle.codes.specs.Codes.{isCode}
+use Rattle.codes.proofs.Rows.{and-true}
 use Rattle.trace.specs.declared.layout.Place.{Place}
 use Rattle.trace.specs.declared.layout.Header.{Header}
 use Rattle.trace.specs.declared.layout.Opened.{Opened}
@@ -17,6 +19,12 @@ use Rattle.trace.specs.Layout.{trailerAt, distanceIn, countIn, codeIn, e
 use Rattle.trace.specs.Refusals.{isCount, isFit}
 use Rattle.trace.specs.Trace.{absent}
 use Rattle.trace.specs.Found.{Refuses, Fitting, openRows, OpenedAs, Opening, Room, slotRows, FoundAt}
+
+-- 'N not 1 to 4,000'
+pub count-bounds : (n : ℕ) → isCount n ≡ true → (1 ≤ n) × (n ≤ 4000)
+count-bounds n e =
+    let both = and-true (leb 1 n) (leb n 4000) e in
+    (leb-true 1 n (both .0), leb-true n 4000 (both .1))
 
 -- a trailer's numbers, test by test
 module _ (before distance n code edition : ℕ) where

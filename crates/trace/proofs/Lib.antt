@@ -2,7 +2,6 @@ pub mod Numbers
 pub mod Overwriting
 pub mod Layouts
 pub mod Settling
-pub mod Known
 pub mod Finds
 pub mod Contents
 pub mod Mends

@@ -11,6 +11,7 @@ use borrow.Author.Tests.{le-ltb, ltb-false, not-false}
 use Rattle.codes.specs.Answer.{accepted, unless}
 use Rattle.codes.specs.Projection.{Projection}
 use Rattle.codes.specs.Codes.{isCode, unknownCode}
+use Rattle.codes.proofs.Rows.{accepted-row}
 use Rattle.trace.specs.Layout.{slotBytes, freeFor, made}
 use Rattle.trace.specs.Calls.{after}
 use Rattle.trace.specs.Refusals.{isCount, wrongCount, tooShort}
@@ -20,7 +21,7 @@ use Rattle.trace.proofs.Numbers.{bytes-zero}
 use Rattle.trace.specs.Claims.{MakeFit, Making}
 use Rattle.trace.proofs.Layouts.{length-trailer}
 use Rattle.trace.proofs.Stored.{Sound}
-use Rattle.trace.proofs.Settling.{row-passed, settle-answer}
+use Rattle.trace.proofs.Settling.{settle-answer}
 
 -- 'A blank slot is all zero'
 blank-slots : (π : Projection) (n : ℕ) → slotsBytes π (replicate n blank) ≡ replicate (11 * n) 0
@@ -55,9 +56,9 @@ accepted-fit : (found : List ℕ) (code n : ℕ) → make code n found .answer �
 unfolding make
 accepted-fit found code n e =
     let passed = sym (settle-answer (unless (unknownCode code ∷ wrongCount n ∷ tooShort (length found) (11 * n + 8) ∷ []) (accepted [])) (made code n found) found) ∙ e in
-    let known = row-passed (unknownCode code) _ [] passed in
-    let counted = row-passed (wrongCount n) _ [] (known .1) in
-    let long = row-passed (tooShort (length found) (11 * n + 8)) _ [] (counted .1) in
+    let known = accepted-row (unknownCode code) _ [] passed in
+    let counted = accepted-row (wrongCount n) _ [] (known .1) in
+    let long = accepted-row (tooShort (length found) (11 * n + 8)) _ [] (counted .1) in
     (not-false _ (known .0), not-false _ (counted .0), ltb-false (length found) (11 * n + 8) (long .0))
 
 module _ (found : List ℕ) (code n : ℕ) (long : 11 * n + 8 ≤ length found) where

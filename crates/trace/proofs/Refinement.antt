@@ -18,6 +18,7 @@ use Rattle.codes.specs.Answer.{Answer, accepted, refused, unless}
 use Rattle.codes.specs.Projection.{width}
 use Rattle.codes.specs.Message.{encode}
 use Rattle.codes.specs.Codes.{codeOf, stepLimit}
+use Rattle.codes.proofs.Rows.{or-false, accepted-row}
 use Rattle.trace.specs.declared.change.Change.{Change}
 use Rattle.trace.specs.Layout.{placeFrom, storeAt}
 use Rattle.trace.specs.Calls.{Call, put, flip, mark, clear, read, survey, After, after, settle, Run, run}
@@ -26,7 +27,7 @@ use Rattle.trace.specs.Survey.{answersOf}
 use Rattle.trace.specs.Trace.{bit, messageOf, readOf, onBytes, absent}
 use Rattle.trace.specs.Plain.{Slot, blank, written, Plain, projectionOf, slotOf, withSlot, stateOf, wordOf, marksOf, bytes, flipped, marked, noSuch, isBlank, plainRefusals, plainMended, plainRead, plainGives, plainLeaves, onPlain}
 use Rattle.trace.specs.Found.{Passes, Refuses, slotRows, changeAt, callOf}
-use Rattle.trace.proofs.Settling.{or-false, row-passed, settle-same, settle-holds}
+use Rattle.trace.proofs.Settling.{settle-same, settle-holds}
 use Rattle.trace.proofs.Xor.{xor-assoc}
 use Rattle.trace.proofs.Mends.{message-lt}
 use Rattle.trace.proofs.Changes.{change-refused, change-found}
@@ -176,14 +177,14 @@ module _ (p : Plain) (position : ℕ) (h : position < width (projectionOf p)) wh
 bit-passed : (p : Plain) (i position : ℕ) (vs : List ℕ) → unless (noSuch p i ∷ isBlank p i ∷ noPosition (projectionOf p) position ∷ []) (accepted []) ≡ accepted vs
     → (i < length (p .slots)) × (position < width (projectionOf p))
 bit-passed p i position vs e =
-    let there = row-passed (noSuch p i) _ vs e in
-    let inside = row-passed (noPosition (projectionOf p) position) _ vs (row-passed (isBlank p i) _ vs (there .1) .1) in
+    let there = accepted-row (noSuch p i) _ vs e in
+    let inside = accepted-row (noPosition (projectionOf p) position) _ vs (accepted-row (isBlank p i) _ vs (there .1) .1) in
     (leb-false _ i (there .0), leb-false _ position (inside .0))
 
 leaves-sound : (c : Call) (p : Plain) → Sound p → (vs : List ℕ) → unless (plainRefusals c p) (plainGives c p) ≡ accepted vs → Sound (plainLeaves c p)
 leaves-sound (put i step reading) p s vs e =
-    let there = row-passed (noSuch p i) _ vs e in
-    let small = row-passed (tooLarge (projectionOf p) step reading) _ vs (there .1) in
+    let there = accepted-row (noSuch p i) _ vs e in
+    let small = accepted-row (tooLarge (projectionOf p) step reading) _ vs (there .1) in
     let both = or-false (leb (stepLimit (projectionOf p)) step) (leb 4096 reading) (small .0) in
     sound-with p s i (leb-false _ i (there .0)) (written (messageOf step reading) 0 0)
     (message-lt (codeOf (p .code)) step reading (leb-false _ step (both .0)) (leb-false 4096 reading (both .1)), pow-pos _, pow-pos _)
@@ -193,7 +194,7 @@ leaves-sound (flip i position) p s vs e =
 leaves-sound (mark i position) p s vs e =
     let t = bit-passed p i position vs e in
     sound-with p s i (t .0) (marked (projectionOf p) position (slotOf p i)) (marked-fits p position (t .1) (slotOf p i) (s .slots i))
-leaves-sound (clear i) p s vs e = sound-with p s i (leb-false _ i (row-passed (noSuch p i) _ vs e .0)) blank tt
+leaves-sound (clear i) p s vs e = sound-with p s i (leb-false _ i (accepted-row (noSuch p i) _ vs e .0)) blank tt
 leaves-sound (read i) p s vs e = s
 leaves-sound survey p s vs e = s
 

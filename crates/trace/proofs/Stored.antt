@@ -12,13 +12,12 @@ use lib.ListN.{length, take, drop, length-append, length-set}
 use lib.Seq.{set-split, set-getD, length-take-le}
 use lib.Pow.{pow-mono, pow-pos}
 use lib.Bits.{xor-lt}
-use lib.Dec.{leb}
-use borrow.Author.Tests.{le-ltb, lt-leb, le-leb, eq-eqb, leb-true}
+use borrow.Author.Tests.{le-ltb, lt-leb, le-leb, eq-eqb}
 use Rattle.codes.specs.declared.code.Code.{Code}
 use Rattle.codes.specs.Projection.{Projection, width, messageBits}
 use Rattle.codes.specs.Message.{encode}
-use Rattle.codes.specs.Codes.{codes, isCode, codeOf, projection}
-use Rattle.codes.proofs.Laws.{width-le, encode-lt}
+use Rattle.codes.specs.Codes.{isCode, codeOf, projection}
+use Rattle.codes.proofs.Laws.{width-le, encode-lt, code-lt}
 use Rattle.trace.specs.Layout.{bytesOf, numberAt, trailer, trailerAt, distanceIn, countIn, codeIn, editionIn, slotBytes, placeFrom, placeIn, stateAt, wordAt, marksAt, storeAt}
 use Rattle.trace.specs.Refusals.{isCount, isFit, isBad}
 use Rattle.trace.specs.Trace.{projectionIn}
@@ -27,8 +26,7 @@ use Rattle.trace.specs.Found.{Passes, openRows}
 use Rattle.trace.proofs.Numbers.{length-bytes}
 use Rattle.trace.proofs.Overwriting.{overwrite-middle, number-middle}
 use Rattle.trace.proofs.Layouts.{length-slot, length-trailer, stored}
-use Rattle.trace.proofs.Settling.{and-true}
-use Rattle.trace.proofs.Known.{count-bounds}
+use Rattle.trace.proofs.Finds.{count-bounds}
 
 -- ---- the bytes of the slots
 
@@ -93,9 +91,6 @@ pub record Sound (p : Plain) : Type 0 where
   pub code : isCode (p .code) ≡ true
   pub count : isCount (length (p .slots)) ≡ true
   pub slots : (i : ℕ) → Fits (projectionOf p) (slotOf p i)
-
-code-lt : (n : ℕ) → isCode n ≡ true → n < 256
-code-lt n e = let few = leb-true n (length codes) (and-true (leb 1 n) (leb n (length codes)) e .1) in omega arith
 
 module _ (p : Plain) (s : Sound p) where
   front : List ℕ

@@ -2,7 +2,7 @@
 -- Assumes nothing.
 use mathlib.Core.Path.{_≡_}
 use mathlib.Core.Bool.{true}
-use mathlib.Core.Logic.{_⊎_, _↔_}
+use mathlib.Core.Logic.{_↔_}
 use mathlib.Core.List.{List, [], _∷_}
 use Prim.Native.Nat.{ℕ, _+_, _-_, _*_, _/_, _%_, _^_, _<_, _≤_}
 use lib.Bits.{bitXor, bitOr}
@@ -12,19 +12,14 @@ use Rattle.codes.specs.Projection.{Projection, width, messageBits}
 use Rattle.codes.specs.Word.{word}
 use Rattle.codes.specs.Message.{encode}
 use Rattle.codes.specs.Mending.{outside, ones, wrong, isNear}
-use Rattle.codes.specs.Claims.{RoundTrip, OneMessage, StrictReading, EightApart, OneNear, EightIsFar, MendsNear, RefusesFar}
-use Rattle.codes.specs.Codes.{isCode, codeOf, projection, writing, reading, mending, under}
+use Rattle.codes.specs.Claims.{RoundTrip, OneMessage, StrictReading, EightApart, OneNear, EightIsFar, MendsNear, RefusesFar, Among, WordCallsRefuse}
+use Rattle.codes.specs.Codes.{isCode, codeOf, projection}
 use Rattle.trace.specs.Layout.{countIn, freeFor}
 use Rattle.trace.specs.Calls.{Call, put, flip, mark, clear, read, survey, After, run}
 use Rattle.trace.specs.Refusals.{isCount}
 use Rattle.trace.specs.Survey.{readingOf, readings, total, extremes, answersOf}
 use Rattle.trace.specs.Trace.{bit, messageOf, readOf, onBytes, make}
 use Rattle.trace.specs.Plain.{written, slotOf, bytes, fresh, onPlain}
-
--- a number stands in a list
-abbrev pub Among : ℕ → List ℕ → Type 0
-Among n [] = ⊥
-Among n (x ∷ xs) = (n ≡ x) ⊎ Among n xs
 
 -- ---- demand 1
 
@@ -38,18 +33,13 @@ numbersOf (read slot) = 5 ∷ 7 ∷ 8 ∷ 9 ∷ 10 ∷ 11 ∷ []
 numbersOf survey = 7 ∷ 8 ∷ []
 
 -- 'Unfit input gets one of the thirteen refusal numbers of document 01, returns nothing else, and changes no lent byte'
-abbrev pub RefusedBy : List ℕ → Answer → Type 0
-RefusedBy numbers a = (n : ℕ) → a ≡ refused n → Among n numbers
-
 abbrev pub Harmless : List ℕ → List ℕ → After (List ℕ) → Type 0
 Harmless numbers b r = (n : ℕ) → r .answer ≡ refused n → Among n numbers × (r .state ≡ b)
 
 pub record Demand1 : Type 0 where
   pub calls : (c : Call) (b : List ℕ) → Harmless (numbersOf c) b (onBytes c b)
   pub makings : (code n : ℕ) (b : List ℕ) → Harmless (1 ∷ 6 ∷ 7 ∷ []) b (make code n b)
-  pub writings : (code message : ℕ) → RefusedBy (1 ∷ 2 ∷ []) (under code (λ π. writing π message))
-  pub readings : (code word : ℕ) → RefusedBy (1 ∷ 3 ∷ 4 ∷ []) (under code (λ π. reading π word))
-  pub mendings : (code word marks : ℕ) → RefusedBy (1 ∷ 3 ∷ 5 ∷ []) (under code (λ π. mending π word marks))
+  pub words : WordCallsRefuse
 
 -- ---- making
 

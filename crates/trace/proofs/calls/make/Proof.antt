@@ -6,15 +6,16 @@ use native.Mathlib.Omega.{arith}
 use borrow.Author.Needs.{needs}
 use borrow.Author.Tests.{lt-ltb, le-ltb, not-true, not-false}
 use Rattle.codes.specs.Codes.{isCode}
+use Rattle.codes.proofs.Laws.{code-known, code-unknown}
 use Rattle.trace.specs.Refusals.{isCount}
 use Rattle.trace.specs.Trace.{make}
-use Rattle.trace.proofs.Known.{known, unknown, count-bounds}
+use Rattle.trace.proofs.Finds.{count-bounds}
 use Rattle.trace.proofs.calls.make.Statement.{statement}
 use Rattle.trace.proofs.calls.make.Tie as tie
 
 -- the code is known
 is-code : (c : tie.After-enum-told) → isCode (c .before .before .before .before .args .code) ≡ true
-is-code c = known (c .before .before .before .before .args .code) _ (sym (c .before .before .from-number .ensures) ∙ c .enum-told .given .1) .0
+is-code c = code-known (c .before .before .before .before .args .code) _ (sym (c .before .before .from-number .ensures) ∙ c .enum-told .given .1) .0
 
 -- and the number of slots is fit
 is-count : (c : tie.Else1) → isCount (c .before .before .before .before .before .before .args .slots) ≡ true
@@ -31,7 +32,7 @@ enum-told-2 c = search needs
 
 returns : tie.Need-returns
 unfolding make
-returns c = rw (unknown (c .before .before .before .before .args .code) _ (sym (c .before .before .from-number .ensures) ∙ c .enum-told2 .given .1))
+returns c = rw (code-unknown (c .before .before .before .before .args .code) _ (sym (c .before .before .from-number .ensures) ∙ c .enum-told2 .given .1))
 
 is-count-requires : tie.Need-is-count-requires
 is-count-requires c κs = search needs

@@ -6,15 +6,15 @@ use native.Mathlib.Omega.{arith}
 use borrow.Author.Needs.{needs}
 use borrow.Author.Tests.{not-true, not-false}
 use Rattle.codes.specs.Codes.{isCode}
+use Rattle.codes.proofs.Laws.{code-known, code-unknown}
 use Rattle.trace.specs.Refusals.{isCount}
-use Rattle.trace.proofs.Known.{known, unknown, count-bounds}
-use Rattle.trace.proofs.Finds.{unfit-edition, unfit-code, unfit-count, unfit-distance, unfit-beyond, fits}
+use Rattle.trace.proofs.Finds.{count-bounds, unfit-edition, unfit-code, unfit-count, unfit-distance, unfit-beyond, fits}
 use Rattle.trace.proofs.layout.fit.Statement.{statement}
 use Rattle.trace.proofs.layout.fit.Tie as tie
 
 -- the code is known
 is-code : (c : tie.After-known-told) → isCode (c .before .before .before .before .before .args .number) ≡ true
-is-code c = known (c .before .before .before .before .before .args .number) _ (sym (c .before .before .before .from-number .ensures) ∙ c .before .code .given .1) .0
+is-code c = code-known (c .before .before .before .before .before .args .number) _ (sym (c .before .before .before .from-number .ensures) ∙ c .before .code .given .1) .0
 
 -- and the number of slots is fit
 is-count : (c : tie.Else2) → isCount (c .before .before .before .before .before .before .before .args .slots) ≡ true
@@ -34,7 +34,7 @@ enum-told c = search needs
 
 returns-2 : tie.Need-returns-2
 returns-2 c =
-    let not-code = unknown (c .before .before .before .before .args .number) _ (sym (c .before .before .from-number .ensures) ∙ c .enum-told .given .1) in
+    let not-code = code-unknown (c .before .before .before .before .args .number) _ (sym (c .before .before .from-number .ensures) ∙ c .enum-told .given .1) in
     (unfit-code _ _ _ _ _ (c .before .before .before .if1 .left) not-code, refl)
 
 is-count-requires : tie.Need-is-count-requires
@@ -62,7 +62,7 @@ returns-6 c =
       fit = fits _ _ _ _ _ (c .before .before .before .before .before .before .before .before .if1 .left) (is-code (c .before .before .before .before)) (is-count (c .before .before)) (c .before .if3 .left) (c .if4 .left);
       start = refl;
       slots = refl;
-      code = known (a .number) _ (sym (c .before .before .before .before .before .before .before .from-number .ensures) ∙ c .before .before .before .before .before .code .given .1) .1;
+      code = code-known (a .number) _ (sym (c .before .before .before .before .before .before .before .from-number .ensures) ∙ c .before .before .before .before .before .code .given .1) .1;
       inside = omega arith;
       few = count-bounds (a .slots) (is-count (c .before .before)) .1;
     }
