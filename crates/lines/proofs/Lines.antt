@@ -8,8 +8,8 @@ use borrow.Author.Tests.{lt-ltb, le-ltb}
 use Rattle.codes.specs.Answer.{accepted, refused}
 use Rattle.trace.specs.Layout.{countIn}
 use Rattle.trace.specs.Calls.{survey}
-use Rattle.trace.specs.Survey.{statusOf}
 use Rattle.trace.specs.Trace.{onBytes}
+use Rattle.trace.proofs.Laws.{status-read, status-over}
 use Rattle.lines.specs.Text.{text, decimal, spaced}
 use Rattle.lines.specs.Listing.{line, ending, totalLine, refusedLine, answerIn, slotLines, listing}
 
@@ -20,13 +20,13 @@ spaced-more (m ∷ l) n = ap (λ (k : List ℕ). text " " ++ (decimal m ++ k)) (
 
 pub ending-read : (step reading wrong marks : ℕ) → reading < 4095
     → line (text " read") (step ∷ reading ∷ wrong ∷ marks ∷ []) ≡ ending (accepted (step ∷ reading ∷ wrong ∷ marks ∷ []))
-unfolding ending statusOf
-ending-read step reading wrong marks h = simp (lt-ltb reading 4095 h)
+unfolding ending
+ending-read step reading wrong marks h = rw (status-read step reading (wrong ∷ marks ∷ []) h)
 
 pub ending-over : (step reading wrong marks : ℕ) → 4095 ≤ reading
     → line (text " over") (step ∷ wrong ∷ marks ∷ []) ≡ ending (accepted (step ∷ reading ∷ wrong ∷ marks ∷ []))
-unfolding ending statusOf
-ending-over step reading wrong marks h = simp (le-ltb reading 4095 h)
+unfolding ending
+ending-over step reading wrong marks h = rw (status-over step reading (wrong ∷ marks ∷ []) h)
 
 -- ---- a listing
 

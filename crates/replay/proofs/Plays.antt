@@ -1,21 +1,22 @@
--- A replay taken call by call is the run of the calls that have room; and on the bytes of a plain trace it is the plain trace's, one call at a
--- time, as in demand 3.
+-- A replay taken call by call is the run of the calls that have room. How many have room follows from their answers alone; so on a freshly
+-- made buffer, where the answers are the plain trace's by demand 3, as many run as on the plain trace, and they leave what they leave there.
 -- Assumes nothing.
 use Prim.Native.Nat.{ℕ, _+_, _-_}
-use mathlib.Core.Path.{_≡_, refl}
+use mathlib.Core.Path.{_≡_, refl, sym, _∙_}
 use mathlib.Core.Bool.{Bool, true, false, cond}
 use mathlib.Core.List.{List, [], _∷_, _++_}
 use native.Mathlib.Numerals.{add-one}
 use lib.Dec.{leb}
 use lib.ListN.{length, take, drop}
+use Rattle.codes.specs.Answer.{Answer}
 use Rattle.trace.specs.Calls.{Call, After, run}
-use Rattle.trace.specs.Trace.{onBytes}
-use Rattle.trace.specs.Plain.{Plain, bytes, fresh, onPlain}
-use Rattle.trace.proofs.Stored.{Sound}
-use Rattle.trace.proofs.Refinement.{step-same, step-sound}
-use Rattle.trace.proofs.Making.{fresh-sound, make-accepted}
+use Rattle.trace.specs.Trace.{onBytes, make}
+use Rattle.trace.specs.Plain.{bytes, fresh, onPlain}
+use Rattle.trace.specs.Claims.{MakeFit}
+use Rattle.trace.proofs.Claims.{demand3}
+use Rattle.trace.proofs.Laws.{run-none, run-more}
 use Rattle.replay.specs.Numbers.{callsOf, answerNumbers}
-use Rattle.replay.specs.Replay.{fitting, answersNumbers, Replayed}
+use Rattle.replay.specs.Replay.{fitting, answersNumbers, Left, Replayed}
 use Rattle.replay.specs.Play.{Played, nothing, also, play}
 
 -- what the calls that have room leave, taken at once
@@ -23,8 +24,8 @@ abbrev atOnce : {S : Type 0} → (Call → S → After S) → List Call → ℕ 
 atOnce step cs room s n = record { ran = n; answers = answersNumbers (run step (take n cs) s .answers); state = run step (take n cs) s .state }
 
 play-run : {S : Type 0} (step : Call → S → After S) (cs : List Call) (room : ℕ) (s : S) → play step cs room s ≡ atOnce step cs room s (fitting step cs room s)
-unfolding play fitting run answersNumbers
-play-run step [] room s = refl
+unfolding play fitting answersNumbers
+play-run step [] room s = rw (run-none step s)
 play-run step (c ∷ cs) room s =
     go (leb (length (answerNumbers (step c s .answer))) room) (play-run step cs (room - length (answerNumbers (step c s .answer))) (step c s .state))
   where
@@ -32,24 +33,41 @@ play-run step (c ∷ cs) room s =
         ≡ atOnce step cs room (step c s .state) (fitting step cs (room - length (answerNumbers (step c s .answer))) (step c s .state))
         → cond t (also (answerNumbers (step c s .answer)) (play step cs (room - length (answerNumbers (step c s .answer))) (step c s .state))) (nothing s)
         ≡ atOnce step (c ∷ cs) room s (cond t (fitting step cs (room - length (answerNumbers (step c s .answer))) (step c s .state) + 1) 0)
-    go true e = rw (e, add-one)
-    go false e = refl
+    go true e = rw (e, add-one, run-more step s c)
+    go false e = rw (run-none step s)
 
--- the plain trace's play, as bytes
-abbrev laidPlay : Played Plain → Played (List ℕ)
-laidPlay p = record { ran = p .ran; answers = p .answers; state = bytes (p .state) }
+-- ---- on a freshly made buffer
 
-play-same : (cs : List Call) (room : ℕ) (p : Plain) → Sound p → play onBytes cs room (bytes p) ≡ laidPlay (play onPlain cs room p)
-unfolding play
-play-same [] room p s = refl
-play-same (c ∷ cs) room p s =
-    let xs = answerNumbers (onPlain c p .answer) in
-    rw (step-same c p s) (go (leb (length xs) room) _ _ (play-same cs (room - length xs) (onPlain c p .state) (step-sound c p s)))
-  where
-    go : (t : Bool) (q : Played Plain) (q′ : Played (List ℕ)) → q′ ≡ laidPlay q
-        → cond t (also (answerNumbers (onPlain c p .answer)) q′) (nothing (bytes p)) ≡ laidPlay (cond t (also (answerNumbers (onPlain c p .answer)) q) (nothing p))
-    go true q q′ e = rw e
-    go false q q′ e = refl
+-- how many answers of a list have room
+roomy : List Answer → ℕ → ℕ
+roomy [] room = 0
+roomy (a ∷ rest) room = cond (leb (length (answerNumbers a)) room) (roomy rest (room - length (answerNumbers a)) + 1) 0
+
+fitting-answers : {S : Type 0} (step : Call → S → After S) (cs : List Call) (room : ℕ) (s : S)
+    → fitting step cs room s ≡ roomy (run step cs s .answers) room
+unfolding fitting roomy
+fitting-answers step [] room s = rw (run-none step s)
+fitting-answers step (c ∷ cs) room s =
+    rw (run-more step s c cs, fitting-answers step cs (room - length (answerNumbers (step c s .answer))) (step c s .state))
+
+module _ (found : List ℕ) (code n : ℕ) (fit : MakeFit found code n) (cs : List Call) (answers : List ℕ) where
+  -- as many calls have room as on the plain trace
+  fitting-same : fitting onBytes cs (length answers) (make code n found .state) ≡ fitting onPlain cs (length answers) (fresh found code n)
+  fitting-same =
+      fitting-answers onBytes cs (length answers) (make code n found .state)
+      ∙ rw (demand3 found code n cs fit .answers) (sym (fitting-answers onPlain cs (length answers) (fresh found code n)))
+
+  left-fresh : (ran : ℕ) (b′ answers′ : List ℕ) → Left (λ l. l) onBytes cs (make code n found .state) answers ran b′ answers′
+      → Left bytes onPlain cs (fresh found code n) answers ran b′ answers′
+  left-fresh ran b′ answers′ h =
+      let same = demand3 found code n (take (fitting onPlain cs (length answers) (fresh found code n)) cs) fit in
+      record {
+        calls = h .calls ∙ fitting-same;
+        buffer = h .buffer ∙ rw fitting-same (same .left);
+        told = rw (fitting-same, same .answers) at (h .told);
+      }
+
+-- ---- the contract
 
 -- what a replay left, by its play
 pub record Played-left (p : Played (List ℕ)) (answers : List ℕ) (ran : ℕ) (b′ answers′ : List ℕ) : Type 0 where
@@ -57,17 +75,18 @@ pub record Played-left (p : Played (List ℕ)) (answers : List ℕ) (ran : ℕ) 
   pub buffer : b′ ≡ p .state
   pub told : answers′ ≡ p .answers ++ drop (length (p .answers)) answers
 
+left-any : (b calls answers : List ℕ) (ran : ℕ) (b′ answers′ : List ℕ)
+    → Played-left (play onBytes (callsOf calls) (length answers) b) answers ran b′ answers′
+    → Left (λ l. l) onBytes (callsOf calls) b answers ran b′ answers′
+left-any b calls answers ran b′ answers′ h =
+    let k = rw (play-run onBytes (callsOf calls) (length answers) b) at h in
+    record { calls = k .calls; buffer = k .buffer; told = k .told }
+
 pub replayed : (b calls answers : List ℕ) (ran : ℕ) (b′ answers′ : List ℕ)
     → Played-left (play onBytes (callsOf calls) (length answers) b) answers ran b′ answers′ → Replayed b calls answers ran b′ answers′
 replayed b calls answers ran b′ answers′ h =
+    let any = left-any b calls answers ran b′ answers′ h in
     record {
-      onAny =
-          let k = rw (play-run onBytes (callsOf calls) (length answers) b) at h in
-          record { calls = k .calls; buffer = k .buffer; told = k .told };
-      onFresh =
-          λ found code n fit e.
-          let made = make-accepted found code n (fit .0) (fit .1) (fit .2) in
-          let same = play-same (callsOf calls) (length answers) (fresh found code n) (fresh-sound found code n (fit .0) (fit .1)) in
-          let k = rw (e, made, same, play-run onPlain (callsOf calls) (length answers) (fresh found code n)) at h in
-          record { calls = k .calls; buffer = k .buffer; told = k .told };
+      onAny = any;
+      onFresh = λ found code n fit e. left-fresh found code n fit (callsOf calls) answers ran b′ answers′ (rw e at any);
     }

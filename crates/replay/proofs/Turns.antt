@@ -9,8 +9,8 @@ use native.Mathlib.Omega.{arith}
 use lib.Dec.{leb, ltb, eqb}
 use lib.ListN.{length, getD, drop, length-drop}
 use borrow.Author.Tests.{le-leb, lt-leb, leb-true}
+use Rattle.codes.proofs.Rows.{and-true}
 use Rattle.trace.specs.Trace.{onBytes}
-use Rattle.trace.proofs.Settling.{and-true}
 use Rattle.replay.specs.declared.orders.Order.{Order}
 use Rattle.replay.specs.Numbers.{kinds, isCall, callsIn, answerNumbers}
 use Rattle.replay.specs.Play.{nothing, play}

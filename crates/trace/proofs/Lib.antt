@@ -1,19 +1,24 @@
-pub mod Numbers
-pub mod Overwriting
-pub mod Layouts
-pub mod Settling
-pub mod Finds
-pub mod Contents
-pub mod Mends
-pub mod Changes
-pub mod Readings
-pub mod Tallies
-pub mod Surveys
-pub mod Xor
-pub mod Stored
-pub mod Refinement
-pub mod Making
-pub mod Sets
-pub mod Demand1
-pub mod Demand2
-pub mod Demand3
+-- what the layers above may cite
+pub mod Claims
+pub mod Laws
+
+mod Numbers
+mod Overwriting
+mod Layouts
+mod Settling
+mod Finds
+mod Contents
+mod Mends
+mod Changes
+mod Readings
+mod Statuses
+mod Tallies
+mod Surveys
+mod Xor
+mod Stored
+mod Refinement
+mod Making
+mod Sets
+mod Demand1
+mod Demand2
+mod Demand3

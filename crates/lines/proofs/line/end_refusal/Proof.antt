@@ -1,8 +1,7 @@
 -- `lines::line::end_refusal` meets its contract: 11 is blank, 5 is lost, any other is bad.
 -- Assumes nothing.
 use native.Mathlib.Omega.{arith}
-use Rattle.trace.specs.Survey.{statusOf}
-use Rattle.trace.proofs.Tallies.{bad-refusal}
+use Rattle.trace.proofs.Laws.{status-blank, status-lost, status-bad}
 use Rattle.lines.specs.Text.{spaced}
 use Rattle.lines.specs.Listing.{line, ending}
 use Rattle.lines.proofs.Texts.{written-as}
@@ -38,19 +37,19 @@ same-length : tie.Need-same-length
 same-length c = search needs
 
 returns : tie.Need-returns
-unfolding line spaced ending statusOf
+unfolding line spaced ending
 returns c =
     let w = c .before .before .write-text .ensures in
-    (written-as (rw (c .before .before .before .before .before .enum-told .given .1)) w, omega (arith, w .ends))
+    (written-as (rw (c .before .before .before .before .before .enum-told .given .1, status-blank)) w, omega (arith, w .ends))
 
 same-length-2 : tie.Need-same-length-2
 same-length-2 c = search needs
 
 returns-2 : tie.Need-returns-2
-unfolding line spaced ending statusOf
+unfolding line spaced ending
 returns-2 c =
     let w = c .before .before .write-text2 .ensures in
-    (written-as (rw (c .before .before .before .before .before .enum-told2 .given .1)) w, omega (arith, w .ends))
+    (written-as (rw (c .before .before .before .before .before .enum-told2 .given .1, status-lost)) w, omega (arith, w .ends))
 
 same-length-3 : tie.Need-same-length-3
 same-length-3 c = search needs
@@ -59,7 +58,8 @@ returns-3 : tie.Need-returns-3
 unfolding line spaced ending
 returns-3 c =
     let w = c .before .before .write-text3 .ensures in
-    (written-as (rw (bad-refusal (c .before .before .before .before .before .before .before .args .refusal) (c .before .before .before .before .before .match .keys3))) w, omega (arith, w .ends))
+    let other = status-bad (c .before .before .before .before .before .before .before .args .refusal) (c .before .before .before .before .before .match .keys3) in
+    (written-as (rw other) w, omega (arith, w .ends))
 
 pub end-refusal-spec : {M : Type 1} → statement M
 end-refusal-spec =

@@ -1,0 +1,20 @@
+-- What the layers above may cite beside the claims: lists of calls, one call at a time; a slot's status; how many slots a survey counts.
+-- Assumes nothing.
+use mathlib.Core.Path.{_≡_, refl}
+use mathlib.Core.List.{List, [], _∷_}
+use Rattle.trace.specs.Calls.{Call, After, run}
+pub use Rattle.trace.proofs.Statuses.{status-read, status-over, status-blank, status-lost, status-bad}
+pub use Rattle.trace.proofs.Surveys.{slots-few}
+
+module _ {S : Type 0} (step : Call → S → After S) (s : S) where
+  pub run-none : run step [] s ≡ record { answers = []; state = s }
+  unfolding run
+  run-none = refl
+
+  pub run-more : (c : Call) (cs : List Call) → run step (c ∷ cs) s
+      ≡ record {
+        answers = step c s .answer ∷ run step cs (step c s .state) .answers;
+        state = run step cs (step c s .state) .state;
+      }
+  unfolding run
+  run-more c cs = refl
