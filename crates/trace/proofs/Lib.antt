@@ -1,7 +1,6 @@
 -- what the layers above may cite
 pub mod Claims
 pub mod Laws
-
 mod Numbers
 mod Overwriting
 mod Layouts
