@@ -42,7 +42,8 @@ demand1 =
       calls = λ c b n e. let u = settle-refused (unless (refusals c b) (gives c b)) (leaves c b) b n e in (table c b n (u .0), u .1);
       makings =
           λ code m b n e.
-          let u = settle-refused (unless (unknownCode code ∷ wrongCount m ∷ tooShort (length b) (11 * m + 8) ∷ []) (accepted [])) (made code m b) b n e in
-          (refused-by-rows (unknownCode code ∷ wrongCount m ∷ tooShort (length b) (11 * m + 8) ∷ []) [] n (u .0), u .1);
+          let rows = unknownCode code ∷ wrongCount m ∷ tooShort (length b) (11 * m + 8) ∷ [] in
+          let u = settle-refused (unless rows (accepted [])) (made code m b) b n e in
+          (refused-by-rows rows [] n (u .0), u .1);
       words = word-calls-refuse;
     }

@@ -17,12 +17,13 @@ use Rattle.codes.specs.Codes.{projection, codeOf}
 use Rattle.codes.proofs.Laws.{mend-within, mend-eight, mend-none, none-mend, near-mend}
 use Rattle.trace.specs.Calls.{Call, put, flip, mark, clear, read, survey, run}
 use Rattle.trace.specs.Trace.{messageOf, readMended}
-use Rattle.trace.specs.Plain.{blank, written, Plain, projectionOf, slotOf, bytes, fresh, plainRefusals, plainGives, plainLeaves, plainMended, plainRead, onPlain}
+use Rattle.trace.specs.Plain.{blank, written, Plain, projectionOf, slotOf, bytes, fresh}
+use Rattle.trace.specs.Plain.{plainRefusals, plainGives, plainLeaves, plainMended, plainRead, onPlain}
 use Rattle.trace.specs.Claims.{ReadAfter, Demand3}
 use Rattle.trace.proofs.Settling.{settle-holds}
 use Rattle.trace.proofs.Readings.{read-step}
 use Rattle.trace.proofs.Stored.{Fits}
-use Rattle.trace.proofs.Refinement.{below, read-same, run-same, run-sound}
+use Rattle.trace.proofs.Refinement.{lt-or-le, read-same, run-same, run-sound}
 use Rattle.trace.proofs.Making.{fresh-sound, make-accepted}
 
 -- ---- what mending gives a read
@@ -58,10 +59,14 @@ read-after c step reading F M r f =
 written-below : (p : Plain) (i m F M : ℕ) → slotOf p i ≡ written m F M → i < length (p .slots)
 written-below p i m F M e =
     ⊎-elim (λ h. h)
-    (λ h. let never : blank ≡ written m F M = sym (List·getD-eq-default (p .slots) blank h) ∙ e in let z : _≡_ {A = ℕ} 0 1 = cc in absurd (omega arith))
-    (below i (length (p .slots)))
+    (λ h.
+    let never : blank ≡ written m F M = sym (List·getD-eq-default (p .slots) blank h) ∙ e in
+    let z : _≡_ {A = ℕ} 0 1 = cc in
+    absurd (omega arith))
+    (lt-or-le i (length (p .slots)))
 
-read-written : (p : Plain) (i m F M : ℕ) → slotOf p i ≡ written m F M → plainRead p i ≡ readMended (mend (projectionOf p) (bitXor (encode (projectionOf p) m) F) M)
+read-written : (p : Plain) (i m F M : ℕ) → slotOf p i ≡ written m F M
+    → plainRead p i ≡ readMended (mend (projectionOf p) (bitXor (encode (projectionOf p) m) F) M)
 unfolding plainRead plainMended
 read-written p i m F M e = rw (lt-leb _ _ (written-below p i m F M e), e)
 
@@ -78,7 +83,9 @@ leaves-code survey p = refl
 run-code : (cs : List Call) (p : Plain) → run onPlain cs p .state .code ≡ p .code
 unfolding run onPlain
 run-code [] p = refl
-run-code (c ∷ cs) p = run-code cs (onPlain c p .state) ∙ settle-holds (λ q. q .code ≡ p .code) (unless (plainRefusals c p) (plainGives c p)) (plainLeaves c p) p (λ vs e. leaves-code c p) refl
+run-code (c ∷ cs) p =
+    run-code cs (onPlain c p .state)
+    ∙ settle-holds (λ q. q .code ≡ p .code) (unless (plainRefusals c p) (plainGives c p)) (plainLeaves c p) p (λ vs e. leaves-code c p) refl
 
 fresh-code : (found : List ℕ) (code n : ℕ) → fresh found code n .code ≡ code
 unfolding fresh
@@ -101,6 +108,6 @@ demand3 found code n cs fit =
           let p′ = run onPlain cs p .state in
           let code′ : run onPlain cs (fresh found code n) .state .code ≡ code = run-code cs p ∙ fresh-code found code n in
           let f = rw (e, code′) at (run-sound cs p sound .slots slot) in
-          rw (made, same, read-step (bytes p′) slot, read-same p′ (run-sound cs p sound) slot, read-written p′ slot (messageOf step reading) F M e, code′)
-          (read-after (codeOf code) step reading F M r f);
+          let plain = read-same p′ (run-sound cs p sound) slot ∙ read-written p′ slot (messageOf step reading) F M e in
+          rw (made, same, read-step (bytes p′) slot, plain, code′) (read-after (codeOf code) step reading F M r f);
     }

@@ -62,7 +62,8 @@ unfolding made
 laid b code n h =
     let start : length b - 8 - 11 * n ≡ length b - (11 * n + 8) = omega arith in
     let seam : length b - 8 - 11 * n + length (bytesOf (11 * n) 0) ≡ length b - 8 = simp length-bytes (omega arith) in
-    let end : length b - 8 - 11 * n + length (bytesOf (11 * n) 0 ++ trailer code n) ≡ length b = simp (length-append, length-bytes, length-trailer) (omega arith) in
+    let end : length b - 8 - 11 * n + length (bytesOf (11 * n) 0 ++ trailer code n) ≡ length b =
+    simp (length-append, length-bytes, length-trailer) (omega arith) in
     overwrite-join b (bytesOf (11 * n) 0) (trailer code n) (length b - 8 - 11 * n) (length b - 8) seam (omega arith)
     ∙ overwrite-end b (bytesOf (11 * n) 0 ++ trailer code n) (length b - 8 - 11 * n) end
     ∙ rw (start, bytes-zero)

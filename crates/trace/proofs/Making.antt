@@ -55,7 +55,8 @@ module _ (found : List ℕ) (code n : ℕ) (code-fit : isCode code ≡ true) (co
 accepted-fit : (found : List ℕ) (code n : ℕ) → make code n found .answer ≡ accepted [] → MakeFit found code n
 unfolding make
 accepted-fit found code n e =
-    let passed = sym (settle-answer (unless (unknownCode code ∷ wrongCount n ∷ tooShort (length found) (11 * n + 8) ∷ []) (accepted [])) (made code n found) found) ∙ e in
+    let rows = unknownCode code ∷ wrongCount n ∷ tooShort (length found) (11 * n + 8) ∷ [] in
+    let passed = sym (settle-answer (unless rows (accepted [])) (made code n found) found) ∙ e in
     let known = accepted-row (unknownCode code) _ [] passed in
     let counted = accepted-row (wrongCount n) _ [] (known .1) in
     let long = accepted-row (tooShort (length found) (11 * n + 8)) _ [] (counted .1) in

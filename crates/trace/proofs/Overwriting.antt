@@ -21,7 +21,8 @@ unfolding overwrite
 overwrite-after pre rest new n e = rw (take-at pre rest n e, ← e, drop-append-add)
 
 -- a middle part is written over by another of its length
-pub overwrite-middle : (pre old new post : List ℕ) (n : ℕ) → length pre ≡ n → length new ≡ length old → overwrite (pre ++ (old ++ post)) n new ≡ pre ++ (new ++ post)
+pub overwrite-middle : (pre old new post : List ℕ) (n : ℕ) → length pre ≡ n → length new ≡ length old
+    → overwrite (pre ++ (old ++ post)) n new ≡ pre ++ (new ++ post)
 overwrite-middle pre old new post n e h = overwrite-after pre (old ++ post) new n e ∙ rw (drop-at old post (length new) (sym h))
 
 -- what is written stands between what lies before it and what follows
@@ -30,7 +31,8 @@ unfolding overwrite
 overwrite-split b xs at = sym (append-assoc (take at b) xs (drop (at + length xs) b))
 
 -- bytes that are written one after the other are written at once
-pub overwrite-join : (b xs ys : List ℕ) (at n : ℕ) → at + length xs ≡ n → n ≤ length b → overwrite (overwrite b at xs) n ys ≡ overwrite b at (xs ++ ys)
+pub overwrite-join : (b xs ys : List ℕ) (at n : ℕ) → at + length xs ≡ n → n ≤ length b
+    → overwrite (overwrite b at xs) n ys ≡ overwrite b at (xs ++ ys)
 overwrite-join b xs ys at n e h =
     let seam : length (take at b ++ xs) ≡ n = simp (length-append, length-take) (omega arith) in
     let beyond : at + length xs + length ys ≡ at + length (xs ++ ys) = simp length-append (omega arith) in

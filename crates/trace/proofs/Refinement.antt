@@ -25,7 +25,8 @@ use Rattle.trace.specs.Calls.{Call, put, flip, mark, clear, read, survey
 use Rattle.trace.specs.Refusals.{badSlot, blankSlot, noPosition, tooLarge}
 use Rattle.trace.specs.Survey.{answersOf}
 use Rattle.trace.specs.Trace.{bit, messageOf, readOf, onBytes, absent}
-use Rattle.trace.specs.Plain.{Slot, blank, written, Plain, projectionOf, slotOf, withSlot, stateOf, wordOf, marksOf, bytes, flipped, marked, noSuch, isBlank, plainRefusals, plainMended, plainRead, plainGives, plainLeaves, onPlain}
+use Rattle.trace.specs.Plain.{Slot, blank, written, Plain, projectionOf, slotOf, withSlot, stateOf, wordOf, marksOf, bytes}
+use Rattle.trace.specs.Plain.{flipped, marked, noSuch, isBlank, plainRefusals, plainMended, plainRead, plainGives, plainLeaves, onPlain}
 use Rattle.trace.specs.Found.{Passes, Refuses, slotRows, changeAt, callOf}
 use Rattle.trace.proofs.Settling.{settle-same, settle-holds}
 use Rattle.trace.proofs.Xor.{xor-assoc}
@@ -43,9 +44,9 @@ settle-laid : (a : Answer) (b : List ℕ) (new old : Plain) → b ≡ bytes new 
 settle-laid (accepted vs) b new old e = rw e
 settle-laid (refused n) b new old e = refl
 
--- a slot is one of the slots or not
-pub below : (i n : ℕ) → (i < n) ⊎ (n ≤ i)
-below i n = go (leb n i) refl
+-- a slot is one of n slots or not
+pub lt-or-le : (i n : ℕ) → (i < n) ⊎ (n ≤ i)
+lt-or-le i n = go (leb n i) refl
   where
     go : (t : Bool) → leb n i ≡ t → (i < n) ⊎ (n ≤ i)
     go true e = inr (leb-true n i e)
@@ -90,7 +91,8 @@ module _ (p : Plain) (i : ℕ) (h : i < length (p .slots)) where
       ≡ bytes (withSlot p i (flipped (projectionOf p) position x))
   flip-stores position blank e = absurd (omega arith)
   flip-stores position (written m F M) e =
-      rw (xor-assoc (encode (projectionOf p) m) F (bit (projectionOf p) position)) (store-slot p i h (written m (bitXor F (bit (projectionOf p) position)) M))
+      rw (xor-assoc (encode (projectionOf p) m) F (bit (projectionOf p) position))
+      (store-slot p i h (written m (bitXor F (bit (projectionOf p) position)) M))
 
   mark-stores : (position : ℕ) (x : Slot) → stateOf x ≡ 1
       → storeAt (bytes p) (placeFrom (length (p .free)) i) 1 (wordOf (projectionOf p) x) (bitOr (marksOf x) (bit (projectionOf p) position))
@@ -105,9 +107,11 @@ module _ (p : Plain) (i : ℕ) (h : i < length (p .slots)) where
       (settle-laid (unless (tooLarge (projectionOf p) step reading ∷ []) (accepted [])) _ _ p
       (rw xor-zero-r at (store-slot p i h (written (messageOf step reading) 0 0))))
   change-at s (Change.Flip position) =
-      rw (lt-leb _ _ h, state-in p s i h, word-in p s i h, marks-in p s i h) (bit-slot position (slotOf p i) (s .slots i) _ _ (flip-stores position (slotOf p i)))
+      rw (lt-leb _ _ h, state-in p s i h, word-in p s i h, marks-in p s i h)
+      (bit-slot position (slotOf p i) (s .slots i) _ _ (flip-stores position (slotOf p i)))
   change-at s (Change.Mark position) =
-      rw (lt-leb _ _ h, state-in p s i h, word-in p s i h, marks-in p s i h) (bit-slot position (slotOf p i) (s .slots i) _ _ (mark-stores position (slotOf p i)))
+      rw (lt-leb _ _ h, state-in p s i h, word-in p s i h, marks-in p s i h)
+      (bit-slot position (slotOf p i) (s .slots i) _ _ (mark-stores position (slotOf p i)))
   change-at s Change.Clear = rw (lt-leb _ _ h) (settle-laid (accepted []) _ _ p (store-slot p i h blank))
 
 change-same : (p : Plain) → Sound p → (i : ℕ) (c : Change) → onBytes (callOf i c) (bytes p) ≡ laid (onPlain (callOf i c) p)
@@ -115,22 +119,23 @@ change-same p s i c =
     ⊎-elim
     (λ h. sym (change-found (bytes p) i c (slot-found p s i h)) ∙ rw (projection-in p s, place-in p s i) (change-at p i h s c))
     (λ h. sym (change-refused (bytes p) i c 9 (slot-missing p s i h)) ∙ ap laid (sym (plain-missing p s i h c)))
-    (below i (length (p .slots)))
+    (lt-or-le i (length (p .slots)))
 
 -- ---- a read of a slot
 
 read-slot : (p : Plain) → Sound p → (i : ℕ) → i < length (p .slots) → readOf (bytes p) i ≡ plainRead p i
 unfolding plainRead plainMended
 read-slot p s i h =
+    let fine = not-bad (codeOf (p .code)) (slotOf p i) (s .slots i) in
     read-found (bytes p) i (slot-found p s i h)
-    ∙ rw (projection-in p s, place-in p s i, state-in p s i h, word-in p s i h, marks-in p s i h, lt-leb _ _ h, not-bad (codeOf (p .code)) (slotOf p i) (s .slots i))
+    ∙ rw (projection-in p s, place-in p s i, state-in p s i h, word-in p s i h, marks-in p s i h, lt-leb _ _ h, fine)
 
 pub read-same : (p : Plain) → Sound p → (i : ℕ) → readOf (bytes p) i ≡ plainRead p i
 unfolding plainRead
 read-same p s i =
     ⊎-elim (read-slot p s i)
     (λ h. read-refused (bytes p) i 9 (slot-missing p s i h) ∙ rw (le-leb _ _ h))
-    (below i (length (p .slots)))
+    (lt-or-le i (length (p .slots)))
 
 answers-same : (f g : ℕ → Answer) (n : ℕ) → ((i : ℕ) → f i ≡ g i) → answersOf f n ≡ answersOf g n
 unfolding answersOf
@@ -174,14 +179,16 @@ module _ (p : Plain) (position : ℕ) (h : position < width (projectionOf p)) wh
   marked-fits (written m F M) f = (f .0, f .1, or-lt _ M _ (f .2) bit-lt)
 
 -- a flip or a mark that is accepted names a slot and a position in its word
-bit-passed : (p : Plain) (i position : ℕ) (vs : List ℕ) → unless (noSuch p i ∷ isBlank p i ∷ noPosition (projectionOf p) position ∷ []) (accepted []) ≡ accepted vs
+bit-passed : (p : Plain) (i position : ℕ) (vs : List ℕ)
+    → unless (noSuch p i ∷ isBlank p i ∷ noPosition (projectionOf p) position ∷ []) (accepted []) ≡ accepted vs
     → (i < length (p .slots)) × (position < width (projectionOf p))
 bit-passed p i position vs e =
     let there = accepted-row (noSuch p i) _ vs e in
     let inside = accepted-row (noPosition (projectionOf p) position) _ vs (accepted-row (isBlank p i) _ vs (there .1) .1) in
     (leb-false _ i (there .0), leb-false _ position (inside .0))
 
-leaves-sound : (c : Call) (p : Plain) → Sound p → (vs : List ℕ) → unless (plainRefusals c p) (plainGives c p) ≡ accepted vs → Sound (plainLeaves c p)
+leaves-sound : (c : Call) (p : Plain) → Sound p → (vs : List ℕ) → unless (plainRefusals c p) (plainGives c p) ≡ accepted vs
+    → Sound (plainLeaves c p)
 leaves-sound (put i step reading) p s vs e =
     let there = accepted-row (noSuch p i) _ vs e in
     let small = accepted-row (tooLarge (projectionOf p) step reading) _ vs (there .1) in

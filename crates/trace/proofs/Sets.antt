@@ -11,14 +11,14 @@ use lib.Bits.{bitXor, bitOr, differ, xor-shr, or-shr, or-step}
 use Rattle.codes.specs.Projection.{width}
 use Rattle.trace.specs.Claims.{FlipToggles, MarkAdds}
 use Rattle.trace.proofs.Xor.{lowest}
-use Rattle.trace.proofs.Refinement.{below}
+use Rattle.trace.proofs.Refinement.{lt-or-le}
 
 -- the digits of a power of two
 own-digit : (k : ℕ) → 2 ^ k / 2 ^ k % 2 ≡ 1
 own-digit k = rw (div-self (pow-pos k))
 
 other-digit : (j k : ℕ) → (j ≡ k → ⊥) → 2 ^ j / 2 ^ k % 2 ≡ 0
-other-digit j k h = ⊎-elim lower (λ le. higher (j - k - 1) (omega arith)) (below j k)
+other-digit j k h = ⊎-elim lower (λ le. higher (j - k - 1) (omega arith)) (lt-or-le j k)
   where
     lower : j < k → 2 ^ j / 2 ^ k % 2 ≡ 0
     lower lt = rw (div-eq-of-lt (pow-lt lt))

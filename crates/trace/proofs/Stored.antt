@@ -18,7 +18,8 @@ use Rattle.codes.specs.Projection.{Projection, width, messageBits}
 use Rattle.codes.specs.Message.{encode}
 use Rattle.codes.specs.Codes.{isCode, codeOf, projection}
 use Rattle.codes.proofs.Laws.{width-le, encode-lt, code-lt}
-use Rattle.trace.specs.Layout.{bytesOf, numberAt, trailer, trailerAt, distanceIn, countIn, codeIn, editionIn, slotBytes, placeFrom, placeIn, stateAt, wordAt, marksAt, storeAt}
+use Rattle.trace.specs.Layout.{bytesOf, numberAt, trailer, trailerAt, distanceIn, countIn, codeIn, editionIn}
+use Rattle.trace.specs.Layout.{slotBytes, placeFrom, placeIn, stateAt, wordAt, marksAt, storeAt}
 use Rattle.trace.specs.Refusals.{isCount, isFit, isBad}
 use Rattle.trace.specs.Trace.{projectionIn}
 use Rattle.trace.specs.Plain.{Slot, blank, written, Plain, projectionOf, slotOf, withSlot, stateOf, wordOf, marksOf, slotsBytes, bytes}
@@ -79,7 +80,8 @@ module _ (front : List ℕ) (code n : ℕ) (code-fits : code < 256) (few : n ≤
   ended-edition : editionIn (front ++ trailer code n) ≡ 1
   unfolding trailer
   ended-edition =
-      field (bytesOf 4 (11 * n) ++ (bytesOf 2 n ++ bytesOf 1 code)) [] 1 1 7 (simp (append-assoc, append-nil)) (simp (length-append, length-bytes)) (omega arith)
+      field (bytesOf 4 (11 * n) ++ (bytesOf 2 n ++ bytesOf 1 code)) [] 1 1 7 (simp (append-assoc, append-nil))
+      (simp (length-append, length-bytes)) (omega arith)
 
 -- ---- plain traces whose numbers fit the layout
 
@@ -172,7 +174,8 @@ module _ (p : Plain) (i : ℕ) (h : i < length (p .slots)) where
   length-bytes-at = rw bytes-at (simp (length-append, length-before, length-slot) (omega arith))
 
   -- storing a slot's numbers is storing the slot
-  pub store-slot : (s : Slot) → storeAt (bytes p) (placeFrom (length (p .free)) i) (stateOf s) (wordOf (projectionOf p) s) (marksOf s) ≡ bytes (withSlot p i s)
+  pub store-slot : (s : Slot)
+      → storeAt (bytes p) (placeFrom (length (p .free)) i) (stateOf s) (wordOf (projectionOf p) s) (marksOf s) ≡ bytes (withSlot p i s)
   unfolding slot-bytes
   store-slot s =
       stored (bytes p) (length (p .free)) i (stateOf s) (wordOf (projectionOf p) s) (marksOf s) length-bytes-at

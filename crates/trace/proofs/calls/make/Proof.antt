@@ -15,7 +15,8 @@ use Rattle.trace.proofs.calls.make.Tie as tie
 
 -- the code is known
 is-code : (c : tie.After-enum-told) → isCode (c .before .before .before .before .args .code) ≡ true
-is-code c = code-known (c .before .before .before .before .args .code) _ (sym (c .before .before .from-number .ensures) ∙ c .enum-told .given .1) .0
+is-code c =
+    code-known (c .before .before .before .before .args .code) _ (sym (c .before .before .from-number .ensures) ∙ c .enum-told .given .1) .0
 
 -- and the number of slots is fit
 is-count : (c : tie.Else1) → isCount (c .before .before .before .before .before .before .args .slots) ≡ true
@@ -32,7 +33,8 @@ enum-told-2 c = search needs
 
 returns : tie.Need-returns
 unfolding make
-returns c = rw (code-unknown (c .before .before .before .before .args .code) _ (sym (c .before .before .from-number .ensures) ∙ c .enum-told2 .given .1))
+returns c =
+    rw (code-unknown (c .before .before .before .before .args .code) _ (sym (c .before .before .from-number .ensures) ∙ c .enum-told2 .given .1))
 
 is-count-requires : tie.Need-is-count-requires
 is-count-requires c κs = search needs
@@ -40,7 +42,8 @@ is-count-requires c κs = search needs
 returns-2 : tie.Need-returns-2
 unfolding make
 returns-2 c =
-    let not-count : isCount (c .before .before .before .before .before .before .args .slots) ≡ false = sym (c .before .is-count .ensures) ∙ not-true _ (c .if1 .taken) in
+    let not-count : isCount (c .before .before .before .before .before .before .args .slots) ≡ false =
+    sym (c .before .is-count .ensures) ∙ not-true _ (c .if1 .taken) in
     simp (is-code (c .before .before), not-count)
 
 mul-if2 : tie.Need-mul-if2
@@ -54,14 +57,18 @@ unfolding make
 returns-3 c = simp (is-code (c .before .before .before), is-count (c .before), lt-ltb _ _ (c .if2 .taken))
 
 lay-requires : tie.Need-lay-requires
-lay-requires c κs = (c .before .if2 .left, count-bounds (c .before .before .before .before .before .before .before .before .args .slots) (is-count (c .before .before)) .1)
+lay-requires c κs =
+    let a = c .before .before .before .before .before .before .before .before .args in
+    (c .before .if2 .left, count-bounds (a .slots) (is-count (c .before .before)) .1)
 
 same-length : tie.Need-same-length
 same-length c = search needs
 
 returns-4 : tie.Need-returns-4
 unfolding make
-returns-4 c = simp (is-code (c .before .before .before .before .before .before .before), is-count (c .before .before .before .before .before), le-ltb _ _ (c .before .before .before .before .if2 .left), c .before .before .lay .ensures)
+returns-4 c =
+    let long = c .before .before .before .before in
+    simp (is-code (long .before .before .before), is-count (long .before), le-ltb _ _ (long .if2 .left), c .before .before .lay .ensures)
 
 pub make-spec : {M : Type 1} → statement M
 make-spec =

@@ -17,7 +17,9 @@ enum-known-h : tie.Need-enum-known-h
 enum-known-h c = search needs
 
 returns : tie.Need-returns
-returns c = not-found _ _ (c .before .before .h .given .0 .0) (rw (c .before .before .h .given .1) at (c .before .before .before .before .«open» .ensures)) (c .if1 .taken)
+returns c =
+    let o = rw (c .before .before .h .given .1) at (c .before .before .before .before .«open» .ensures) in
+    not-found _ _ _ o (c .if1 .taken)
 
 place-from-requires : tie.Need-place-from-requires
 place-from-requires c κs =
@@ -31,8 +33,8 @@ returns-2 c =
 
 returns-3 : tie.Need-returns-3
 returns-3 c =
-    found _ _ (c .before .before .before .h .given .0 .0) (rw (c .before .before .before .h .given .1) at (c .before .before .before .before .before .«open» .ensures))
-    (c .before .if1 .left) _ (c .place-from .ensures)
+    let o = rw (c .before .before .before .h .given .1) at (c .before .before .before .before .before .«open» .ensures) in
+    found _ _ _ o (c .before .if1 .left) _ (c .place-from .ensures)
 
 pub find-spec : {M : Type 1} → statement M
 find-spec =

@@ -14,7 +14,9 @@ use Rattle.trace.proofs.layout.fit.Tie as tie
 
 -- the code is known
 is-code : (c : tie.After-known-told) → isCode (c .before .before .before .before .before .args .number) ≡ true
-is-code c = code-known (c .before .before .before .before .before .args .number) _ (sym (c .before .before .before .from-number .ensures) ∙ c .before .code .given .1) .0
+is-code c =
+    code-known (c .before .before .before .before .before .args .number) _
+    (sym (c .before .before .before .from-number .ensures) ∙ c .before .code .given .1) .0
 
 -- and the number of slots is fit
 is-count : (c : tie.Else2) → isCount (c .before .before .before .before .before .before .before .args .slots) ≡ true
@@ -34,7 +36,8 @@ enum-told c = search needs
 
 returns-2 : tie.Need-returns-2
 returns-2 c =
-    let not-code = code-unknown (c .before .before .before .before .args .number) _ (sym (c .before .before .from-number .ensures) ∙ c .enum-told .given .1) in
+    let not-code =
+    code-unknown (c .before .before .before .before .args .number) _ (sym (c .before .before .from-number .ensures) ∙ c .enum-told .given .1) in
     (unfit-code _ _ _ _ _ (c .before .before .before .if1 .left) not-code, refl)
 
 is-count-requires : tie.Need-is-count-requires
@@ -42,27 +45,34 @@ is-count-requires c κs = search needs
 
 returns-3 : tie.Need-returns-3
 returns-3 c =
-    let not-count : isCount (c .before .before .before .before .before .before .before .args .slots) ≡ false = sym (c .before .is-count .ensures) ∙ not-true _ (c .if2 .taken) in
+    let not-count : isCount (c .before .before .before .before .before .before .before .args .slots) ≡ false =
+    sym (c .before .is-count .ensures) ∙ not-true _ (c .if2 .taken) in
     (unfit-count _ _ _ _ _ (c .before .before .before .before .before .before .if1 .left) (is-code (c .before .before)) not-count, refl)
 
 mul-if3 : tie.Need-mul-if3
 mul-if3 c = let few = count-bounds (c .before .before .before .before .before .before .before .args .slots) (is-count c) in omega arith
 
 returns-4 : tie.Need-returns-4
-returns-4 c = (unfit-distance _ _ _ _ _ (c .before .before .before .before .before .before .before .if1 .left) (is-code (c .before .before .before)) (is-count (c .before)) (c .if3 .taken), refl)
+returns-4 c =
+    let known = c .before .before .before in
+    (unfit-distance _ _ _ _ _ (known .before .before .before .before .if1 .left) (is-code known) (is-count (c .before)) (c .if3 .taken), refl)
 
 returns-5 : tie.Need-returns-5
 returns-5 c =
-    (unfit-beyond _ _ _ _ _ (c .before .before .before .before .before .before .before .before .if1 .left) (is-code (c .before .before .before .before)) (is-count (c .before .before)) (c .before .if3 .left) (c .if4 .taken), refl)
+    let known = c .before .before .before .before in
+    let edition = known .before .before .before .before .if1 .left in
+    (unfit-beyond _ _ _ _ _ edition (is-code known) (is-count (c .before .before)) (c .before .if3 .left) (c .if4 .taken), refl)
 
 returns-6 : tie.Need-returns-6
 returns-6 c =
-    let a = c .before .before .before .before .before .before .before .before .before .args in
+    let known = c .before .before .before .before in
+    let edition = known .before .before .before .before .if1 .left in
+    let a = known .before .before .before .before .before .args in
     record {
-      fit = fits _ _ _ _ _ (c .before .before .before .before .before .before .before .before .if1 .left) (is-code (c .before .before .before .before)) (is-count (c .before .before)) (c .before .if3 .left) (c .if4 .left);
+      fit = fits _ _ _ _ _ edition (is-code known) (is-count (c .before .before)) (c .before .if3 .left) (c .if4 .left);
       start = refl;
       slots = refl;
-      code = code-known (a .number) _ (sym (c .before .before .before .before .before .before .before .from-number .ensures) ∙ c .before .before .before .before .before .code .given .1) .1;
+      code = code-known (a .number) _ (sym (known .before .before .before .from-number .ensures) ∙ known .before .code .given .1) .1;
       inside = omega arith;
       few = count-bounds (a .slots) (is-count (c .before .before)) .1;
     }

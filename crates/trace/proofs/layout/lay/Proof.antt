@@ -26,7 +26,8 @@ same-length c = search needs
 
 returns : tie.Need-returns
 returns c =
-    c .before .before .seal .ensures ∙ rw (c .before .before .before .before .before .before .store .ensures) (laid _ _ _ (c .before .before .before .before .before .before .before .before .before .pre .0))
+    let zeros = c .before .before .before .before .before .before in
+    c .before .before .seal .ensures ∙ rw (zeros .store .ensures) (laid _ _ _ (zeros .before .before .before .pre .0))
 
 pub lay-spec : {M : Type 1} → statement M
 lay-spec =

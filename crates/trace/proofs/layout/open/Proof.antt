@@ -39,8 +39,11 @@ fit-requires c κs = search needs
 
 returns-2 : tie.Need-returns-2
 returns-2 c =
-    opening (now (c .before .before .before .before .before .before .before .args .b)) (c .before .before .before .before .before .if1 .left) (c .fit .result)
-    (rw (c .before .before .before .before .number-at .ensures .0, c .before .before .before .number-at2 .ensures .0, c .before .before .number-at3 .ensures .0, c .before .number-at4 .ensures .0)
+    let first = c .before .before .before .before in
+    let second = c .before .before .before in
+    let third = c .before .before in
+    opening (now (first .before .before .before .args .b)) (first .before .if1 .left) (c .fit .result)
+    (rw (first .number-at .ensures .0, second .number-at2 .ensures .0, third .number-at3 .ensures .0, c .before .number-at4 .ensures .0)
     at (c .fit .ensures))
 
 pub open-spec : {M : Type 1} → statement M

@@ -38,7 +38,8 @@ returns c =
     let first = c .before .before .before .before .before .before .before .before .before .before .before .before .before .before in
     let second = c .before .before .before .before .before .before .before .before .before .before in
     let third = c .before .before .before .before .before .before in
-    c .before .before .store4 .ensures ∙ rw (third .store3 .ensures, second .store2 .ensures, first .store .ensures) (sealed _ _ _ _ (first .before .before .before .pre .0))
+    c .before .before .store4 .ensures
+    ∙ rw (third .store3 .ensures, second .store2 .ensures, first .store .ensures) (sealed _ _ _ _ (first .before .before .before .pre .0))
 
 pub seal-spec : {M : Type 1} → statement M
 seal-spec =

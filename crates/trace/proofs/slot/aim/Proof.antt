@@ -29,7 +29,9 @@ returns : tie.Need-returns
 returns c =
     let a = c .before .before .before .before .before .before .before .args in
     let w = rw (c .before .before .before .word .given .1) at (c .before .before .before .before .before .look .ensures) in
-    λ x. w .passes (unless (noPosition (projection (a .code)) (a .position) ∷ []) x) ∙ rw (le-leb _ _ (rw (c .before .width .ensures) at (c .if1 .taken)))
+    λ x.
+    w .passes (unless (noPosition (projection (a .code)) (a .position) ∷ []) x)
+    ∙ rw (le-leb _ _ (rw (c .before .width .ensures) at (c .if1 .taken)))
 
 sub-power : tie.Need-sub-power
 sub-power c = search needs
@@ -51,7 +53,10 @@ returns-3 c =
     let a = c .before .before .before .before .before .before .before .before .args in
     let w = rw (c .before .before .before .before .word .given .1) at (c .before .before .before .before .before .before .look .ensures) in
     record {
-      passes = λ x. w .passes (unless (noPosition (projection (a .code)) (a .position) ∷ []) x) ∙ rw (lt-leb _ _ (rw (c .before .before .width .ensures) at (c .before .if1 .left)));
+      passes =
+          λ x.
+          w .passes (unless (noPosition (projection (a .code)) (a .position) ∷ []) x)
+          ∙ rw (lt-leb _ _ (rw (c .before .before .width .ensures) at (c .before .if1 .left)));
       word = w .word;
       marks = w .marks;
       bit = c .power .ensures ∙ ap (λ (n : ℕ). 2 ^ (n - 1 - a .position)) (c .before .before .width .ensures);

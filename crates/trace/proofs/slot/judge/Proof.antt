@@ -16,10 +16,12 @@ limit : (c : tie.After-power) → c .power .result ≡ 2 ^ width (projection (c 
 limit c = c .power .ensures ∙ ap (λ (n : ℕ). 2 ^ n) (c .before .width .ensures)
 
 -- a word and marks that pass it
-word-fits : (c : tie.Else2) → c .before .before .before .before .args .word < 2 ^ width (projection (c .before .before .before .before .args .code))
+word-fits : (c : tie.Else2)
+    → c .before .before .before .before .args .word < 2 ^ width (projection (c .before .before .before .before .args .code))
 word-fits c = rw (limit (c .before .before)) at (c .if2 .left)
 
-marks-fit : (c : tie.Else3) → c .before .before .before .before .before .args .marks < 2 ^ width (projection (c .before .before .before .before .before .args .code))
+marks-fit : (c : tie.Else3)
+    → c .before .before .before .before .before .args .marks < 2 ^ width (projection (c .before .before .before .before .before .args .code))
 marks-fit c = rw (limit (c .before .before .before)) at (c .if3 .left)
 
 width-requires : tie.Need-width-requires

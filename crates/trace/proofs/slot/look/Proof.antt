@@ -17,7 +17,9 @@ judge-requires : tie.Need-judge-requires
 judge-requires c κs = search needs
 
 returns : tie.Need-returns
-returns c = rw (c .before .before .before .number-at .ensures .0, c .before .before .number-at2 .ensures .0, c .before .number-at3 .ensures .0) at (c .judge .ensures)
+returns c =
+    rw (c .before .before .before .number-at .ensures .0, c .before .before .number-at2 .ensures .0, c .before .number-at3 .ensures .0)
+    at (c .judge .ensures)
 
 pub look-spec : {M : Type 1} → statement M
 look-spec =

@@ -21,8 +21,8 @@ same-length c = search needs
 returns : tie.Need-returns
 unfolding storeAt
 returns c =
-    c .before .before .store3 .ensures
-    ∙ rw (c .before .before .before .before .before .before .store2 .ensures, c .before .before .before .before .before .before .before .before .before .before .store .ensures)
+    let second = c .before .before .before .before .before .before in
+    c .before .before .store3 .ensures ∙ rw (second .store2 .ensures, second .before .before .before .before .store .ensures)
 
 pub write-spec : {M : Type 1} → statement M
 write-spec =
