@@ -29,6 +29,7 @@ use Rattle.codes.proofs.Messages.{encode-below, encode-codeword, decode
 use Rattle.codes.proofs.Codes.{systematic, apart}
 use Rattle.codes.proofs.Answers.{row-met, row-passed}
 use Rattle.codes.proofs.Rows.{not-refused, refused-by, refused-by-rows}
+pub use Rattle.codes.proofs.Positions.{positions}
 use Rattle.codes.proofs.Mends as mends
 use Rattle.codes.proofs.Mends.{mended, mend-near, mend-none, mending-fits}
 

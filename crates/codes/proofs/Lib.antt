@@ -23,3 +23,4 @@ pub mod Tables
 pub mod Mends
 pub mod Laws
 pub mod Rows
+pub mod Positions

@@ -1,19 +1,35 @@
--- The claims about the four codes (demand 2 and the word calls' part of demand 1; document 01, 'The four codes', 'Mending' and 'Refusals by what
--- comes back'). Each is one definition, and one theorem of the same name in proofs/Claims.antt. They speak of the definitions, and so, by the contracts, of the functions.
+-- The claims about the four codes (demand 2 and the word calls' part of demand 1; document 01, 'Columns and their values', 'The four codes',
+-- 'Mending' and 'Refusals by what comes back'). Each is one definition, and one theorem of the same name in proofs/Claims.antt. They speak of the definitions, and so, by the contracts, of the functions.
 -- Assumes nothing.
 use mathlib.Core.Path.{_≡_}
 use mathlib.Core.Bool.{true}
 use mathlib.Core.Logic.{_⊎_}
 use mathlib.Core.List.{List, [], _∷_}
-use Prim.Native.Nat.{ℕ, _+_, _*_, _^_, _≤_, _<_}
+use Prim.Native.Nat.{ℕ, _+_, _-_, _*_, _^_, _≤_, _<_}
+use lib.ListN.{getD}
+use Rattle.symbols.specs.Column.{Column, column, columnOf, one}
 use Rattle.codes.specs.declared.code.Code.{Code}
 use Rattle.codes.specs.Answer.{Answer, accepted, refused}
-use Rattle.codes.specs.Projection.{width, messageBits}
-use Rattle.codes.specs.Word.{word, isCodeword, _⊞_, distance}
+use Rattle.codes.specs.Projection.{Projection, size, width, messageBits}
+use Rattle.codes.specs.Word.{word, bitAt, isCodeword, _⊞_, distance}
 use Rattle.codes.specs.Message.{encode, decode}
 use Rattle.codes.specs.Mending.{wrong, ones, isNear}
 use Rattle.codes.specs.Codes.{projection, writing, reading, mending, under}
 use Rattle.codes.specs.Starred.{starredWords, Each}
+
+-- ---- words
+
+-- the rows of a column, row 0 first
+abbrev pub rows : Column → List ℕ
+rows (column a b c d) = one a ∷ one b ∷ one c ∷ one d ∷ []
+
+-- 'Position 4(c−1)+r is row r (0 to 3) of column c'
+abbrev pub Positions : Type 0
+Positions =
+    (π : Projection) (n c r : ℕ) → 1 ≤ c → c ≤ size π → r < 4 →
+    bitAt π n (4 * (c - 1) + r) ≡ getD (rows (getD (word π n) (c - 1) (columnOf 0))) r 0
+
+-- ---- demand 2
 
 -- a number that is a codeword of a code
 abbrev pub IsCodeword : Code → ℕ → Type 0

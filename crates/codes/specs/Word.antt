@@ -2,12 +2,12 @@
 -- Assumes nothing.
 use mathlib.Core.Bool.{Bool, true, false, _&&_, _||_, Bool·beq}
 use mathlib.Core.List.{List, [], _∷_, map}
-use Prim.Native.Nat.{ℕ, _+_}
+use Prim.Native.Nat.{ℕ, _+_, _-_, _/_, _%_, _^_}
 use Rattle.symbols.specs.Symbol.{_⊻_, Symbol}
 use Rattle.symbols.specs.Column.{Column, value, parity, top, weight, _⊕_}
 use Rattle.codes.specs.Digits.{columns, digits, numberOf}
 use Rattle.codes.specs.Vector.{zeros, addV, scale, isZeroV}
-use Rattle.codes.specs.Projection.{Projection, wanted, size}
+use Rattle.codes.specs.Projection.{Projection, wanted, size, width}
 
 -- the columns of a number as a word of a code: 'one digit a column, column 1 first'
 abbrev pub word : Projection → ℕ → List Column
@@ -16,6 +16,13 @@ word π n = digits columns (size π) n
 -- the number of a word's columns
 abbrev pub wordNumber : List Column → ℕ
 wordNumber cs = numberOf columns cs
+
+-- 'position 0 is the highest bit': the bit of a position, and 1 where a word has a one there, else 0
+abbrev pub bit : Projection → ℕ → ℕ
+bit π position = 2 ^ (width π - 1 - position)
+
+abbrev pub bitAt : Projection → ℕ → ℕ → ℕ
+bitAt π n position = n / bit π position % 2
 
 -- 'The syndrome is H times the values, with no conjugate'
 abbrev pub syndrome : ℕ → List (List Symbol) → List Symbol → List Symbol

@@ -16,6 +16,7 @@ use lib.Bits.{bitXor, bitOr, xor-lt, or-lt, xor-zero-r}
 use borrow.Author.Tests.{le-leb, lt-leb, leb-true, leb-false, eqb-true, eqb-false}
 use Rattle.codes.specs.Answer.{Answer, accepted, refused, unless}
 use Rattle.codes.specs.Projection.{width}
+use Rattle.codes.specs.Word.{bit}
 use Rattle.codes.specs.Message.{encode}
 use Rattle.codes.specs.Codes.{codeOf, stepLimit}
 use Rattle.codes.proofs.Rows.{or-false, accepted-row}
@@ -24,7 +25,7 @@ use Rattle.trace.specs.Layout.{placeFrom, storeAt}
 use Rattle.trace.specs.Calls.{Call, put, flip, mark, clear, read, survey, After, after, settle, Run, run}
 use Rattle.trace.specs.Refusals.{badSlot, blankSlot, noPosition, tooLarge}
 use Rattle.trace.specs.Survey.{answersOf}
-use Rattle.trace.specs.Trace.{bit, messageOf, readOf, onBytes, absent}
+use Rattle.trace.specs.Trace.{messageOf, readOf, onBytes, absent}
 use Rattle.trace.specs.Plain.{Slot, blank, written, Plain, projectionOf, slotOf, withSlot, stateOf, wordOf, marksOf, bytes}
 use Rattle.trace.specs.Plain.{flipped, marked, noSuch, isBlank, plainRefusals, plainMended, plainRead, plainGives, plainLeaves, onPlain}
 use Rattle.trace.specs.Found.{Passes, Refuses, slotRows, changeAt, callOf}

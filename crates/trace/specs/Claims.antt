@@ -9,7 +9,7 @@ use lib.Bits.{bitXor, bitOr}
 use lib.ListN.{length}
 use Rattle.codes.specs.Answer.{Answer, accepted, refused}
 use Rattle.codes.specs.Projection.{Projection, width, messageBits}
-use Rattle.codes.specs.Word.{word}
+use Rattle.codes.specs.Word.{word, bit, bitAt}
 use Rattle.codes.specs.Message.{encode}
 use Rattle.codes.specs.Mending.{outside, ones, wrong, isNear}
 use Rattle.codes.specs.Claims.{RoundTrip, OneMessage, StrictReading, EightApart, OneNear, EightIsFar, MendsNear, RefusesFar, Among, WordCallsRefuse}
@@ -18,7 +18,7 @@ use Rattle.trace.specs.Layout.{countIn, freeFor}
 use Rattle.trace.specs.Calls.{Call, put, flip, mark, clear, read, survey, After, run}
 use Rattle.trace.specs.Refusals.{isCount}
 use Rattle.trace.specs.Survey.{readingOf, readings, total, extremes, answersOf}
-use Rattle.trace.specs.Trace.{bit, messageOf, readOf, onBytes, make}
+use Rattle.trace.specs.Trace.{messageOf, readOf, onBytes, make}
 use Rattle.trace.specs.Plain.{written, slotOf, bytes, fresh, onPlain}
 
 -- ---- demand 1
@@ -93,25 +93,21 @@ pub record Follows (found : List ℕ) (code n : ℕ) (calls : List Call) : Type 
 abbrev pub Demand3 : Type 0
 Demand3 = (found : List ℕ) (code n : ℕ) (calls : List Call) → MakeFit found code n → Follows found code n calls
 
--- ---- the plain trace's sets
-
--- 1 where a set, given as a word, has a position, and 0 where it hasn't
-abbrev pub has : Projection → ℕ → ℕ → ℕ
-has π set position = set / bit π position % 2
+-- ---- the plain trace's sets: words whose ones are their positions
 
 -- 'flip moves a position into F or out of it', and no other
 abbrev pub FlipToggles : Type 0
 FlipToggles =
     (π : Projection) (F position other : ℕ) → position < width π → other < width π
-    → (has π (bitXor F (bit π position)) position ≡ 1 - has π F position)
-    × ((other ≡ position → ⊥) → has π (bitXor F (bit π position)) other ≡ has π F other)
+    → (bitAt π (bitXor F (bit π position)) position ≡ 1 - bitAt π F position)
+    × ((other ≡ position → ⊥) → bitAt π (bitXor F (bit π position)) other ≡ bitAt π F other)
 
 -- 'mark adds to M' that position, and no other
 abbrev pub MarkAdds : Type 0
 MarkAdds =
     (π : Projection) (M position other : ℕ) → position < width π → other < width π
-    → (has π (bitOr M (bit π position)) position ≡ 1)
-    × ((other ≡ position → ⊥) → has π (bitOr M (bit π position)) other ≡ has π M other)
+    → (bitAt π (bitOr M (bit π position)) position ≡ 1)
+    × ((other ≡ position → ⊥) → bitAt π (bitOr M (bit π position)) other ≡ bitAt π M other)
 
 -- ---- the survey
 

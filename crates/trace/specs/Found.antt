@@ -9,6 +9,7 @@ use lib.Bits.{bitXor, bitOr}
 use Rattle.codes.specs.declared.code.Code.{Code}
 use Rattle.codes.specs.Answer.{Answer, accepted, refused, Row, unless}
 use Rattle.codes.specs.Projection.{Projection, width}
+use Rattle.codes.specs.Word.{bit}
 use Rattle.codes.specs.Message.{encode}
 use Rattle.codes.specs.Codes.{codeOf}
 use Rattle.trace.specs.declared.answer.Pressures.{Pressures}
@@ -24,7 +25,7 @@ use Rattle.trace.specs.Layout.{trailerAt, distanceIn, countIn, codeIn, p
 use Rattle.trace.specs.Calls.{Call, put, flip, mark, clear, After, settle}
 use Rattle.trace.specs.Refusals.{isFit, badSlot, blankSlot, noPosition, tooLarge}
 use Rattle.trace.specs.Survey.{blank, read, over, lost, bad, readingOf, count, readings, total, smallest, largest, extremes}
-use Rattle.trace.specs.Trace.{short, unfit, absent, bit, messageOf}
+use Rattle.trace.specs.Trace.{short, unfit, absent, messageOf}
 use Rattle.trace.specs.Answers.{refusalNumber, pressuresValues}
 
 -- no row is met; the first row that is met has the number k

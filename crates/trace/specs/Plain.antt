@@ -7,6 +7,7 @@ use lib.ListN.{length, getD, set, replicate}
 use lib.Bits.{bitXor, bitOr}
 use Rattle.codes.specs.Answer.{Answer, accepted, Row, unless}
 use Rattle.codes.specs.Projection.{Projection}
+use Rattle.codes.specs.Word.{bit}
 use Rattle.codes.specs.Message.{encode}
 use Rattle.codes.specs.Mending.{mend}
 use Rattle.codes.specs.Codes.{projection, codeOf}
@@ -14,7 +15,7 @@ use Rattle.trace.specs.Layout.{slotBytes, trailer, freeFor}
 use Rattle.trace.specs.Calls.{Call, put, flip, mark, clear, read, survey, After, settle}
 use Rattle.trace.specs.Refusals.{noSlot, blankSlot, noPosition, tooLarge}
 use Rattle.trace.specs.Survey.{surveyOf}
-use Rattle.trace.specs.Trace.{bit, messageOf, readMended}
+use Rattle.trace.specs.Trace.{messageOf, readMended}
 
 -- 'A slot is blank, or is written and has the message last put, a set F and a set M'
 pub data Slot : Type 0 where

@@ -2,11 +2,12 @@
 -- comes back').
 -- Assumes nothing.
 use mathlib.Core.List.{List, [], _∷_}
-use Prim.Native.Nat.{ℕ, _+_, _-_, _*_, _/_, _%_, _^_}
+use Prim.Native.Nat.{ℕ, _+_, _*_, _/_, _%_}
 use lib.ListN.{length}
 use lib.Bits.{bitXor, bitOr}
 use Rattle.codes.specs.Answer.{Answer, accepted, refused, Row, unless}
-use Rattle.codes.specs.Projection.{Projection, width}
+use Rattle.codes.specs.Projection.{Projection}
+use Rattle.codes.specs.Word.{bit}
 use Rattle.codes.specs.Message.{encode}
 use Rattle.codes.specs.Mending.{Mended, near, none, mend}
 use Rattle.codes.specs.Codes.{projection, codeOf, unknownCode}
@@ -18,10 +19,6 @@ use Rattle.trace.specs.Survey.{surveyOf}
 -- the code of a buffer's trace
 abbrev pub projectionIn : List ℕ → Projection
 projectionIn b = projection (codeOf (codeIn b))
-
--- 'position 0 is the highest bit': the bit of a position
-abbrev pub bit : Projection → ℕ → ℕ
-bit π position = 2 ^ (width π - 1 - position)
 
 -- 'message = step·4096 + reading'
 abbrev pub messageOf : ℕ → ℕ → ℕ
