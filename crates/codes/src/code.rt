@@ -1,4 +1,4 @@
-// The four codes. Here, and nowhere else, stand the numbers that tell one from another.
+// The four codes. Here stand the numbers that tell one from another; what is computed from their check matrices stands in table.rt.
 use crate::answer::Refusal;
 ghost use mathlib.Core.Path.{_≡_};
 ghost use mathlib.Core.Bool.{false};

@@ -1,7 +1,18 @@
-// The syndrome tables: which syndromes are a column of the check matrix times a symbol.
-//
-// At each packed syndrome stands 4 times a column, counted from 1, plus the scale, where it is that scale times that column,
-// otherwise 0. A line has the syndromes that agree in their first two rows.
+// The tables of the two check matrices.
+
+// The columns of a matrix times 0, 1, 2 and 3, packed with the first row highest. A line has four columns.
+pub const SCALED_36: [u8; 40] = *b"\
+    \x00\x40\x80\xc0\x00\x10\x20\x30\x00\x04\x08\x0c\x00\x01\x02\x03\
+    \x00\x59\xae\xf7\x00\x4f\x85\xca\x00\xe4\x78\x9c\x00\x39\x1e\x27\
+    \x00\x57\xa9\xfe\x00\x00\x00\x00";
+
+pub const SCALED_40: [u8; 40] = *b"\
+    \x00\x4e\x87\xc9\x00\x4b\x8d\xc6\x00\x45\x8a\xcf\x00\x40\x80\xc0\
+    \x00\x1e\x27\x39\x00\x1b\x2d\x36\x00\x15\x2a\x3f\x00\x10\x20\x30\
+    \x00\x04\x08\x0c\x00\x01\x02\x03";
+
+// Which syndromes are a column of the matrix times a symbol: at each packed syndrome stands 4 times a column, counted from 1, plus the
+// scale, where it is that scale times that column, otherwise 0. A line has the syndromes that agree in their first two rows.
 pub const ENTRIES_36: [u8; 256] = *b"\
     \x00\x11\x12\x13\x0d\x00\x00\x00\x0e\x00\x00\x00\x0f\x00\x00\x00\
     \x09\x00\x00\x00\x00\x00\x00\x00\x00\x00\x00\x00\x00\x00\x22\x00\

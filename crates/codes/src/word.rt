@@ -1,5 +1,7 @@
 // A word as an array of columns, by value, and one walk over it. A code of m columns uses the first m of ten.
 use crate::code::Code;
+use crate::table::SCALED_36;
+use crate::table::SCALED_40;
 ghost use mathlib.Core.Path.{_≡_};
 ghost use mathlib.Core.List.{[]};
 ghost use Prim.Native.Nat.{_<_};
@@ -11,93 +13,6 @@ ghost use Rattle.codes.specs.Projection.{size};
 ghost use Rattle.codes.specs.Codes.{projection};
 ghost use Rattle.codes.specs.Word.{word, wordNumber};
 ghost use Rattle.codes.specs.Walk.{held, scaledColumns, Walked};
-
-// The columns of each check matrix times 0, 1, 2 and 3, packed with the first row highest.
-pub const SCALED_36: [u8; 40] = [
-    0,
-    64,
-    128,
-    192,
-    0,
-    16,
-    32,
-    48,
-    0,
-    4,
-    8,
-    12,
-    0,
-    1,
-    2,
-    3,
-    0,
-    89,
-    174,
-    247,
-    0,
-    79,
-    133,
-    202,
-    0,
-    228,
-    120,
-    156,
-    0,
-    57,
-    30,
-    39,
-    0,
-    87,
-    169,
-    254,
-    0,
-    0,
-    0,
-    0,
-];
-
-pub const SCALED_40: [u8; 40] = [
-    0,
-    78,
-    135,
-    201,
-    0,
-    75,
-    141,
-    198,
-    0,
-    69,
-    138,
-    207,
-    0,
-    64,
-    128,
-    192,
-    0,
-    30,
-    39,
-    57,
-    0,
-    27,
-    45,
-    54,
-    0,
-    21,
-    42,
-    63,
-    0,
-    16,
-    32,
-    48,
-    0,
-    4,
-    8,
-    12,
-    0,
-    1,
-    2,
-    3,
-];
 
 // What one walk over the columns collects: the syndrome, packed with its first row highest, the top row's parity, and
 // the number of odd columns.
