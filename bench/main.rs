@@ -88,7 +88,7 @@ fn compare_words(number: u64, code: &Code, random: &mut Random, count: u64) {
     }
 }
 
-/// The projection decoder of this program against its own search, so that it is not trusted either.
+/// The library against a search through all codewords, so that nothing rests on this program's own projection decoder.
 fn compare_search(number: u64, code: &Code, random: &mut Random) {
     let codewords: Vec<u64> = (0..1 << code.message_bits()).map(|m| code.encode(m)).collect();
     for _ in 0..200 {
