@@ -7,7 +7,7 @@ use mathlib.Core.List.{[], _∷_}
 use Prim.Native.Nat.{ℕ, _+_, _*_, _^_, _≤_, _<_}
 use native.Mathlib.Omega.{arith}
 use lib.Bits.{bitXor}
-use lib.Dec.{leb, lit<}
+use lib.Dec.{leb}
 use lib.ListN.{length}
 use borrow.Author.Tests.{lt-leb, leb-true}
 use Rattle.codes.specs.declared.code.Code.{Code}
@@ -30,12 +30,6 @@ use Rattle.codes.proofs.Rows.{and-true, not-refused}
 pub use Rattle.codes.proofs.Codes.{width-le, bits-le}
 pub use Rattle.codes.proofs.Mends.{mending-fits}
 
-pub width-pos : (c : Code) → 0 < width (projection c)
-width-pos O36 = lit< tt
-width-pos E36 = lit< tt
-width-pos O40 = lit< tt
-width-pos E40 = lit< tt
-
 -- step·4096 + reading is below the message limit exactly where the step is below its limit
 pub steps : (c : Code) → stepLimit (projection c) * 4096 ≡ 2 ^ messageBits (projection c)
 steps O36 = refl
@@ -44,18 +38,19 @@ steps O40 = refl
 steps E40 = refl
 
 -- a codeword has the code's width
-pub encode-lt : (c : Code) (n : ℕ) → n < 2 ^ messageBits (projection c) → encode (projection c) n < 2 ^ width (projection c)
-encode-lt c n h = encode-below (projection c) (systematic c) n
+pub encode-lt : (c : Code) (n : ℕ) → encode (projection c) n < 2 ^ width (projection c)
+encode-lt c n = encode-below (projection c) (systematic c) n
 
 -- a message's codeword that is near
 near-of : (c : Code) (w m n : ℕ) → 2 * wrong (projection c) w m (encode (projection c) n) + ones (projection c) m ≤ 7 →
     Near (projection c) w m (encode (projection c) n)
 near-of c w m n h =
     let π = projection c in
-    record { fits = encode-below π (systematic c) n; codeword = encode-codeword π (systematic c) n; near = mends.sum-near π w m (encode π n) h }
+    record { fits = encode-lt c n; codeword = encode-codeword π (systematic c) n; near = mends.sum-near π w m (encode π n) h }
 
 -- a near codeword is what mending gives: there is at most one
-pub near-mend : (c : Code) (w m n : ℕ) → n < 2 ^ messageBits (projection c) → 2 * wrong (projection c) w m (encode (projection c) n) + ones (projection c) m ≤ 7 →
+pub near-mend : (c : Code) (w m n : ℕ) → n < 2 ^ messageBits (projection c) →
+    2 * wrong (projection c) w m (encode (projection c) n) + ones (projection c) m ≤ 7 →
     mend (projection c) w m ≡ near (encode (projection c) n) n (wrong (projection c) w m (encode (projection c) n)) (ones (projection c) m)
 near-mend c w m n hn h =
     let π = projection c in
@@ -63,33 +58,25 @@ near-mend c w m n hn h =
     ∙ ap (λ (i : ℕ). near (encode π n) i (wrong π w m (encode π n)) (ones π m)) (decode-encode π (systematic c) n hn)
 
 -- a codeword with positions f inverted, under marks m: f and m are words whose ones are the positions
-pub mend-within : (c : Code) (n f m : ℕ) → n < 2 ^ messageBits (projection c) → f < 2 ^ width (projection c) → m < 2 ^ width (projection c) →
+pub mend-within : (c : Code) (n f m : ℕ) → n < 2 ^ messageBits (projection c) →
     2 * outside (word (projection c) f) (word (projection c) m) + ones (projection c) m ≤ 7 →
     mend (projection c) (bitXor (encode (projection c) n) f) m
     ≡ near (encode (projection c) n) n (outside (word (projection c) f) (word (projection c) m)) (ones (projection c) m)
-mend-within c n f m hn hf hm h =
+mend-within c n f m hn h =
     let π = projection c in
     let e = mends.wrong-inverted π m (encode π n) f in
     near-mend c (bitXor (encode π n) f) m n hn (subst (λ (k : ℕ). 2 * k + ones π m ≤ 7) (sym e) h)
     ∙ ap (λ (k : ℕ). near (encode π n) n k (ones π m)) e
 
-pub mend-eight : (c : Code) (n f m : ℕ) → n < 2 ^ messageBits (projection c) → f < 2 ^ width (projection c) → m < 2 ^ width (projection c) →
+pub mend-eight : (c : Code) (n f m : ℕ) →
     2 * outside (word (projection c) f) (word (projection c) m) + ones (projection c) m ≡ 8 →
     mend (projection c) (bitXor (encode (projection c) n) f) m ≡ none
-mend-eight c n f m hn hf hm h =
+mend-eight c n f m h =
     let π = projection c in
     let w = bitXor (encode π n) f in
     mends.mend-none π w m (systematic c) (apart c)
     (mends.eight-none π w m (systematic c) (apart c) (encode π n) (encode-below π (systematic c) n) (encode-codeword π (systematic c) n)
     (ap (λ (k : ℕ). 2 * k + ones π m) (mends.wrong-inverted π m (encode π n) f) ∙ h))
-
--- what mending gives is a near codeword's, with its message and both counts
-pub mend-near : (c : Code) (w m x n k l : ℕ) → mend (projection c) w m ≡ near x n k l →
-    (n < 2 ^ messageBits (projection c)) × (x ≡ encode (projection c) n) × (k ≡ wrong (projection c) w m x) × (l ≡ ones (projection c) m) × (2 * k + l ≤ 7)
-mend-near c w m x n k l e =
-    let π = projection c in
-    let given = mends.mended π w m x n k l e in
-    (given .0, given .1, given .2, given .3, omega (arith, given .2, given .3, mends.near-sum π w m x (given .4)))
 
 -- mending gives nothing exactly where no codeword is near
 pub mend-none : (c : Code) (w m : ℕ) → mend (projection c) w m ≡ none →

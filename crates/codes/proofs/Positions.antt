@@ -1,17 +1,17 @@
 -- Positions of a word, counted from its highest bit, are the rows of its columns: column c is the digit of 16^(m−c), row r of it the digit of 2^(3−r).
 -- Assumes nothing.
 use mathlib.Core.Path.{_≡_, refl, sym, _∙_}
-use Prim.Native.Nat.{ℕ, zero, suc, _+_, _-_, _*_, _/_, _%_, _^_, _<_, _≤_}
+use Prim.Native.Nat.{ℕ, zero, suc, _+_, _-_, _*_, _/_, _%_, _^_, _<_}
 use native.Mathlib.Nat.{mod-lt, mul-suc, pow-suc}
 use native.Mathlib.Omega.{arith}
 use lib.Dec.{eqb, lit<}
 use lib.ListN.{getD}
 use lib.Pow.{shr-shr, pow-add}
 use Rattle.symbols.specs.Symbol.{bit}
-use Rattle.symbols.specs.Column.{Column, columnOf, one}
+use Rattle.symbols.specs.Column.{columnOf, one}
 use Rattle.symbols.proofs.Every.{law-below, number-discrete}
 use Rattle.codes.specs.Digits.{Digit, columns, digits}
-use Rattle.codes.specs.Projection.{Projection, size, width}
+use Rattle.codes.specs.Projection.{size, width}
 use Rattle.codes.specs.Claims.{rows, Positions}
 
 -- a digit of a number

@@ -1,7 +1,7 @@
 -- Demand 3. The run on the bytes is the plain run ('Refinement'), which starts with the bytes that making leaves ('Making'). The read after it
 -- is the plain trace's, which mends the message's codeword with F inverted under M; the codes' laws say what that gives.
 -- Assumes nothing.
-use Prim.Native.Nat.{ℕ, _+_, _*_, _/_, _%_, _<_}
+use Prim.Native.Nat.{ℕ, _+_, _*_, _/_, _%_, _<_, _^_}
 use mathlib.Core.Path.{_≡_, refl, sym, _∙_}
 use mathlib.Core.Logic.{⊎-elim}
 use mathlib.Core.List.{List, [], _∷_}
@@ -11,6 +11,7 @@ use lib.ListN.{length, List·getD-eq-default}
 use borrow.Author.Tests.{le-leb, lt-leb, leb-true}
 use Rattle.codes.specs.declared.code.Code.{Code}
 use Rattle.codes.specs.Answer.{refused, unless}
+use Rattle.codes.specs.Projection.{messageBits}
 use Rattle.codes.specs.Message.{encode}
 use Rattle.codes.specs.Mending.{Mended, near, none, mend}
 use Rattle.codes.specs.Codes.{projection, codeOf}
@@ -22,7 +23,6 @@ use Rattle.trace.specs.Plain.{plainRefusals, plainGives, plainLeaves, pl
 use Rattle.trace.specs.Claims.{ReadAfter, Demand3}
 use Rattle.trace.proofs.Settling.{settle-holds}
 use Rattle.trace.proofs.Readings.{read-step}
-use Rattle.trace.proofs.Stored.{Fits}
 use Rattle.trace.proofs.Refinement.{lt-or-le, read-same, run-same, run-sound}
 use Rattle.trace.proofs.Making.{fresh-sound, make-accepted}
 
@@ -33,18 +33,18 @@ unfolding readMended
 refused-none (near c m w k) e = let z : _≡_ {A = ℕ} 0 1 = cc in absurd (omega arith)
 refused-none none e = refl
 
-read-after : (c : Code) (step reading F M : ℕ) → reading < 4096 → Fits (projection c) (written (messageOf step reading) F M)
+read-after : (c : Code) (step reading F M : ℕ) → reading < 4096 → messageOf step reading < 2 ^ messageBits (projection c)
     → ReadAfter (projection c) step reading F M (bitXor (encode (projection c) (messageOf step reading)) F)
     (readMended (mend (projection c) (bitXor (encode (projection c) (messageOf step reading)) F) M))
 unfolding readMended
-read-after c step reading F M r f =
+read-after c step reading F M r fits =
     let m = messageOf step reading in
     let w = bitXor (encode (projection c) (messageOf step reading)) F in
     let first : (step * 4096 + reading) / 4096 ≡ step = omega arith in
     let second : (step * 4096 + reading) % 4096 ≡ reading = omega arith in
     record {
-      within = λ h. rw (mend-within c m F M (f .0) (f .1) (f .2) h, first, second);
-      eight = λ h. rw (mend-eight c m F M (f .0) (f .1) (f .2) h);
+      within = λ h. rw (mend-within c m F M fits h, first, second);
+      eight = λ h. rw (mend-eight c m F M h);
       beyond =
           λ h. (
             (λ e n near. mend-none c w M (refused-none (mend (projection c) w M) e) n (near .0) (leb-true _ 7 (near .1))),
@@ -109,5 +109,5 @@ demand3 found code n cs fit =
           let code′ : run onPlain cs (fresh found code n) .state .code ≡ code = run-code cs p ∙ fresh-code found code n in
           let f = rw (e, code′) at (run-sound cs p sound .slots slot) in
           let plain = read-same p′ (run-sound cs p sound) slot ∙ read-written p′ slot (messageOf step reading) F M e in
-          rw (made, same, read-step (bytes p′) slot, plain, code′) (read-after (codeOf code) step reading F M r f);
+          rw (made, same, read-step (bytes p′) slot, plain, code′) (read-after (codeOf code) step reading F M r (f .0));
     }

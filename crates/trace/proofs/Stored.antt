@@ -192,7 +192,7 @@ module _ (p : Plain) (i : ℕ) (h : i < length (p .slots)) where
 module _ (c : Code) where
   pub word-lt : (s : Slot) → Fits (projection c) s → wordOf (projection c) s < 2 ^ width (projection c)
   word-lt blank f = pow-pos (width (projection c))
-  word-lt (written m F M) f = xor-lt (width (projection c)) (encode (projection c) m) F (encode-lt c m (f .0)) (f .1)
+  word-lt (written m F M) f = xor-lt (width (projection c)) (encode (projection c) m) F (encode-lt c m) (f .1)
 
   pub marks-lt : (s : Slot) → Fits (projection c) s → marksOf s < 2 ^ width (projection c)
   marks-lt blank f = pow-pos (width (projection c))
