@@ -80,8 +80,8 @@ mend-eight c n f m h =
 
 -- mending gives nothing exactly where no codeword is near
 pub mend-none : (c : Code) (w m : ℕ) → mend (projection c) w m ≡ none →
-    (n : ℕ) → n < 2 ^ messageBits (projection c) → 2 * wrong (projection c) w m (encode (projection c) n) + ones (projection c) m ≤ 7 → ⊥
-mend-none c w m e n hn h = mends.none-near (projection c) w m (systematic c) (apart c) e (encode (projection c) n) (near-of c w m n h)
+    (n : ℕ) → 2 * wrong (projection c) w m (encode (projection c) n) + ones (projection c) m ≤ 7 → ⊥
+mend-none c w m e n h = mends.none-near (projection c) w m (systematic c) (apart c) e (encode (projection c) n) (near-of c w m n h)
 
 pub none-mend : (c : Code) (w m : ℕ) →
     ((n : ℕ) → n < 2 ^ messageBits (projection c) → 2 * wrong (projection c) w m (encode (projection c) n) + ones (projection c) m ≤ 7 → ⊥) →

@@ -47,7 +47,7 @@ read-after c step reading F M r fits =
       eight = λ h. rw (mend-eight c m F M h);
       beyond =
           λ h. (
-            (λ e n near. mend-none c w M (refused-none (mend (projection c) w M) e) n (near .0) (leb-true _ 7 (near .1))),
+            (λ e n near. mend-none c w M (refused-none (mend (projection c) w M) e) n (leb-true _ 7 (near .1))),
             (λ far. rw (none-mend c w M (λ n hn h. far n (hn, le-leb _ 7 h)))),
           );
       otherwise = λ h n near. rw (near-mend c w M n (near .0) (leb-true _ 7 (near .1)));
