@@ -7,23 +7,21 @@ use mathlib.Core.Path.{_≡_, refl, sym, ap, ap₂, _∙_, subst}
 use mathlib.Core.Bool.{Bool, true, false, not, _&&_, _||_}
 use mathlib.Core.List.{List, [], _∷_, map}
 use Prim.Native.Nat.{ℕ, zero, suc, _+_, _-_, _*_, _/_, _%_, _^_, _≤_, _<_}
-use native.Mathlib.Nat.{zero-div}
 use native.Mathlib.Omega.{arith}
 use lib.Dec.{T, leb, leb→le, ltb, ltb→lt, eqb, eqb→eq}
 use borrow.Author.Tests.{eq-eqb, ne-eqb}
-use lib.ListN.{length, getD}
+use lib.ListN.{length, getD, length-map}
 use Rattle.symbols.specs.Symbol.{_⊻_, Symbol, isZero, symbolOf}
 use Rattle.symbols.specs.Column.{Column, value, parity, one, weight, _⊕_}
 use Rattle.symbols.proofs.Every.{columns as all-columns, _⊗_, below, at-below, and-left, and-right}
-use Rattle.symbols.proofs.Symbols.{add-self}
 use Rattle.codes.specs.Digits.{symbols, digits, numberOf}
 use Rattle.codes.specs.Vector.{addV, scale, isZeroV}
 use Rattle.codes.specs.Projection.{Projection, size}
 use Rattle.codes.specs.Word.{_⊞_, syndromeOf, allParity, weightOf, distance}
 use Rattle.codes.specs.Search.{entry, tableFrom, entryTable, lacks}
-use Rattle.codes.proofs.Vectors.{addV-assoc, zero-add}
-use Rattle.codes.proofs.Words.{length-sum, length-map, syndrome-sum, parity-first, parity-rest, parity-cons}
-use Rattle.codes.proofs.Distance.{isLive, live, settles, settled, even-live, count-cons, test-true}
+use Rattle.codes.proofs.Vectors.{addV-assoc, add-zero-vector, addV-self}
+use Rattle.codes.proofs.Words.{length-sum, syndrome-sum, parity-first, parity-rest, parity-cons, count-cons}
+use Rattle.codes.proofs.Distance.{isLive, live, onlyZeros, only-zeros, even-word-weight, test-true}
 
 -- columns that lack a parity
 lacks-bit : (p : Bool) (x y : Column) → parity y ≡ p → one (p ⊻ parity x) ≤ weight (x ⊕ y)
@@ -63,31 +61,22 @@ lacks-none p (c ∷ cs) e =
     agree false true z = absurd (omega arith)
     agree false false z = refl
 
--- a vector added to itself is zero
-self-zero : (x : List Symbol) → isZeroV (addV x x) ≡ true
-self-zero [] = refl
-self-zero (x ∷ xs) = ap₂ (λ (s : Symbol) (b : Bool). isZero s && b) (add-self x) (self-zero xs)
-
-pub zero-digits : (r : ℕ) → isZeroV (digits symbols r 0) ≡ true
-zero-digits zero = refl
-zero-digits (suc r) = ap₂ (λ (n : ℕ) (b : Bool). isZero (symbolOf n) && b) (zero-div (4 ^ r)) (zero-digits r)
-
 -- live columns
 live-weight : (cs : List Column) → live (map value cs) ≤ weightOf cs
 live-weight [] = omega arith
 live-weight (c ∷ cs) =
     omega (arith, leb→le (isLive (value c)) (weight c) (all-columns .at (λ c. leb (isLive (value c)) (weight c)) tt c), live-weight cs)
 
-module _ (π : Projection) (l : ℕ) (s : List Symbol) (test : T (settles (π .matrix) l s false)) (f c : List Column)
-    (known : s ≡ syndromeOf π f) (zero-sum : isZeroV (syndromeOf π c) ≡ true) (ef : length f ≡ size π) (ec : length c ≡ size π) where
+module _ (π : Projection) (l : ℕ) (s : List Symbol) (test : T (onlyZeros (π .matrix) l s false)) (f c : List Column)
+    (known : s ≡ syndromeOf π f) (no-syndrome : isZeroV (syndromeOf π c) ≡ true) (ef : length f ≡ size π) (ec : length c ≡ size π) where
   none-live : live (map value (f ⊞ c)) ≤ l → ⊥
   none-live h =
       let e : length f ≡ length c = ef ∙ sym ec in
       let a = syndromeOf π f in
       let b = syndromeOf π c in
-      settled (π .rows) (π .matrix) l s false test (map value (f ⊞ c)) (length-map value (f ⊞ c) ∙ length-sum f c e ∙ ef) h
+      only-zeros (π .rows) (π .matrix) l s false test (map value (f ⊞ c)) (length-map (f ⊞ c) value ∙ length-sum f c e ∙ ef) h
       (ap₂ (λ (x y : List Symbol). isZeroV (addV x y)) known (syndrome-sum π f c e)
-      ∙ ap isZeroV (sym (addV-assoc a a b)) ∙ zero-add (addV a a) b zero-sum ∙ self-zero a)
+      ∙ ap isZeroV (sym (addV-assoc a a b)) ∙ add-zero-vector (addV a a) b no-syndrome ∙ addV-self a)
 
   -- each live column has a one
   pub none-close : distance f c ≤ l → ⊥
@@ -95,7 +84,7 @@ module _ (π : Projection) (l : ℕ) (s : List Symbol) (test : T (settles (π .m
 
   -- where the difference is even, each has two
   pub none-even : allParity false (f ⊞ c) ≡ true → distance f c ≤ 2 * l + 1 → ⊥
-  none-even t h = none-live (omega (arith, even-live (f ⊞ c) t))
+  none-even t h = none-live (omega (arith, even-word-weight (f ⊞ c) t))
 
 -- an entry names a column and a scale, not 0, that make the syndrome
 abbrev makes : Projection → ℕ → ℕ
@@ -106,8 +95,8 @@ names π s e = leb 4 e && (ltb (e / 4 - 1) (size π) && (not (isZero (symbolOf (
 
 -- the tests of a code's table
 pub record Tabled (π : Projection) : Type 0 where
-  pub nonzero : T (below (4 ^ π .rows) (λ s. eqb s 0 || settles (π .matrix) 0 (digits symbols (π .rows) s) false))
-  pub unnamed : T (below (4 ^ π .rows) (λ s. (eqb s 0 || not (eqb (entry π s) 0)) || settles (π .matrix) 1 (digits symbols (π .rows) s) false))
+  pub nonzero : T (below (4 ^ π .rows) (λ s. eqb s 0 || onlyZeros (π .matrix) 0 (digits symbols (π .rows) s) false))
+  pub unnamed : T (below (4 ^ π .rows) (λ s. (eqb s 0 || not (eqb (entry π s) 0)) || onlyZeros (π .matrix) 1 (digits symbols (π .rows) s) false))
   pub named : T (below (4 ^ π .rows) (λ s. eqb (entry π s) 0 || names π s (entry π s)))
 
 pub record Named (π : Projection) (s e : ℕ) : Type 0 where
@@ -120,12 +109,12 @@ tested : (n : ℕ) (f g : ℕ → Bool) → T (below n (λ s. f s || g s)) → (
 tested n f g t s h e = subst (λ (b : Bool). T (b || g s)) e (at-below n (λ s. f s || g s) t s h)
 
 module _ (π : Projection) (tabled : Tabled π) (s : ℕ) (small : s < 4 ^ π .rows) where
-  pub zero-live : (s ≡ 0 → ⊥) → T (settles (π .matrix) 0 (digits symbols (π .rows) s) false)
-  zero-live n = tested (4 ^ π .rows) (λ s. eqb s 0) (λ s. settles (π .matrix) 0 (digits symbols (π .rows) s) false) (tabled .nonzero) s small (ne-eqb s 0 n)
+  pub more-than-none : (s ≡ 0 → ⊥) → T (onlyZeros (π .matrix) 0 (digits symbols (π .rows) s) false)
+  more-than-none n = tested (4 ^ π .rows) (λ s. eqb s 0) (λ s. onlyZeros (π .matrix) 0 (digits symbols (π .rows) s) false) (tabled .nonzero) s small (ne-eqb s 0 n)
 
-  pub one-live : (s ≡ 0 → ⊥) → entry π s ≡ 0 → T (settles (π .matrix) 1 (digits symbols (π .rows) s) false)
-  one-live n e =
-      tested (4 ^ π .rows) (λ s. eqb s 0 || not (eqb (entry π s) 0)) (λ s. settles (π .matrix) 1 (digits symbols (π .rows) s) false) (tabled .unnamed) s small
+  pub more-than-one : (s ≡ 0 → ⊥) → entry π s ≡ 0 → T (onlyZeros (π .matrix) 1 (digits symbols (π .rows) s) false)
+  more-than-one n e =
+      tested (4 ^ π .rows) (λ s. eqb s 0 || not (eqb (entry π s) 0)) (λ s. onlyZeros (π .matrix) 1 (digits symbols (π .rows) s) false) (tabled .unnamed) s small
       (ap₂ (λ (a b : Bool). a || not b) (ne-eqb s 0 n) (eq-eqb (entry π s) 0 e))
 
   pub entry-names : (entry π s ≡ 0 → ⊥) → Named π s (entry π s)

@@ -21,8 +21,7 @@ use Rattle.codes.specs.Walk.{valueAt, drafted}
 use Rattle.codes.proofs.Digits.{length-digits}
 use Rattle.codes.proofs.Placing.{Systematic, length-place, place-zeros}
 use Rattle.codes.proofs.Encoding.{with-values, length-tops}
-use Rattle.codes.proofs.Walks.{digits-zero}
-use Rattle.codes.proofs.Sums.{pow-mul}
+use Rattle.codes.proofs.Sums.{pow-mul, digits-zero}
 
 -- the free columns and the others make up all
 count-both : (l : List Bool) → count l + count (map not l) ≡ length l

@@ -6,7 +6,7 @@ use mathlib.Core.Bool.{Bool, true, false, Bool-discrete}
 use mathlib.Core.List.{List, [], _∷_, map}
 use Prim.Native.Nat.{suc, _-_, _<_}
 use native.Mathlib.Omega.{arith}
-use lib.ListN.{length}
+use lib.ListN.{length, length-map}
 use Rattle.symbols.specs.Symbol.{_⊻_, Symbol}
 use Rattle.symbols.specs.Column.{Column, value, parity, top, columnWith}
 use Rattle.symbols.proofs.Every.{bits, _⊗_, law}
@@ -15,7 +15,7 @@ use Rattle.codes.specs.Vector.{isZeroV}
 use Rattle.codes.specs.Projection.{Projection, wanted, count, size, topBits}
 use Rattle.codes.specs.Word.{syndrome, allParity, topRow}
 use Rattle.codes.specs.Message.{Message, allValues, allTops, columnsWith, codewordOf, chosen, firstParity, butLast, messageIn}
-use Rattle.codes.proofs.Words.{Codeword, length-map, parity-first, parity-rest, parity-cons}
+use Rattle.codes.proofs.Words.{Codeword, parity-first, parity-rest, parity-cons}
 use Rattle.codes.proofs.Placing.{Systematic, length-values, values-zero, chosen-values, values-chosen, length-chosen}
 
 -- columns of one parity by their values and top bits
@@ -134,8 +134,8 @@ module _ (π : Projection) (sys : Systematic π) where
   pub sized : (cs : List Column) → length cs ≡ size π → Sized π (messageIn π cs)
   sized cs long =
       record {
-        values = length-chosen (π .free) (map value cs) (length-map value cs ∙ long ∙ sym (sys .marks));
-        tops = length-but-last (map top cs) ∙ omega (arith, length-map top cs);
+        values = length-chosen (π .free) (map value cs) (length-map cs value ∙ long ∙ sym (sys .marks));
+        tops = length-but-last (map top cs) ∙ omega (arith, length-map cs top);
       }
 
   -- a codeword is that of its message
@@ -144,6 +144,6 @@ module _ (π : Projection) (sys : Systematic π) where
       let ep = first-parity p cs (omega (arith, sys .some)) (is .parities) in
       ap (λ (q : Bool). columnsWith q (allValues π (messageIn π cs .values)) (allTops (wanted (π .rule) q) (messageIn π cs .tops))) ep
       ∙ ap₂ (columnsWith p)
-      (values-chosen π sys (map value cs) (length-map value cs ∙ long) (is .zero))
-      (tops-but-last (wanted (π .rule) p) (map top cs) (omega (arith, length-map top cs, sys .some)) (sym (is .tops) ∙ top-row cs))
+      (values-chosen π sys (map value cs) (length-map cs value ∙ long) (is .zero))
+      (tops-but-last (wanted (π .rule) p) (map top cs) (omega (arith, length-map cs top, sys .some)) (sym (is .tops) ∙ top-row cs))
       ∙ columns-with p cs (is .parities)

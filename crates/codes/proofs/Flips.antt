@@ -23,8 +23,7 @@ use Rattle.codes.specs.Word.{word, _⊞_, syndrome, allParity, topRow, d
 use Rattle.codes.specs.Search.{inverted, lacks}
 use Rattle.codes.proofs.Vectors.{addV-assoc, addV-comm, scale-add}
 use Rattle.codes.proofs.Digits.{columns-fit, length-digits, place-pos, digits-remainder}
-use Rattle.codes.proofs.Words.{parity-first, parity-rest, parity-cons}
-use Rattle.codes.proofs.Distance.{count-cons}
+use Rattle.codes.proofs.Words.{parity-first, parity-rest, parity-cons, count-cons}
 use Rattle.codes.proofs.Sums.{pow-mul, columns-xor}
 
 abbrev pub blank : Column

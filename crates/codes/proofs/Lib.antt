@@ -19,6 +19,8 @@ pub mod Flips
 pub mod Nearness
 pub mod Differences
 pub mod Searches
+pub mod Settling
+pub mod Seeking
 pub mod Tables
 pub mod Mends
 pub mod Laws

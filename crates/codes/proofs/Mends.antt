@@ -27,8 +27,9 @@ use Rattle.codes.proofs.Answers.{row-met, row-passed}
 use Rattle.codes.proofs.Placing.{Systematic}
 use Rattle.codes.proofs.Messages.{encode-below, encode-codeword, decode-encode, decode-below, encode-decode}
 use Rattle.codes.proofs.Distance.{Apart}
-use Rattle.codes.proofs.Nearness.{same-length, sum, one-codeword, filled}
+use Rattle.codes.proofs.Nearness.{sum, one-codeword, filled}
 use Rattle.codes.proofs.Sums.{word-xor}
+use Rattle.codes.proofs.Words.{same-length}
 
 -- near as a test and as a bound
 pub near-sum : (π : Projection) (w m x : ℕ) → isNear π w m x ≡ true → sum π w m x ≤ 7

@@ -18,9 +18,10 @@ use Rattle.codes.specs.Digits.{bits, symbols, columns, digits, numberOf}
 use Rattle.codes.specs.Projection.{Projection, count, size, width, topBits, messageBits}
 use Rattle.codes.specs.Word.{word, wordNumber, isCodeword}
 use Rattle.codes.specs.Message.{Message, messageOf, messageNumber, messageIn, codewordOf, encode, decode}
-use Rattle.codes.proofs.Digits.{bits-fit, symbols-fit, columns-fit, length-digits, place-pos, number-digits, number-lt, digits-remainder, digits-again, number-again}
+use Rattle.codes.proofs.Digits.{bits-fit, symbols-fit, columns-fit, length-digits, place-pos, number-lt}
+use Rattle.codes.proofs.Digits.{number-digits, digits-remainder, digits-again, number-again}
 use Rattle.codes.proofs.Sums.{pow-mul}
-use Rattle.codes.proofs.Words.{Codeword, parity-of, is-codeword}
+use Rattle.codes.proofs.Words.{Codeword, parity-of, is-codeword, length-word}
 use Rattle.codes.proofs.Placing.{Systematic}
 use Rattle.codes.proofs.Encoding.{Sized, length-codeword, codeword-is, message-of-codeword, sized, codeword-of-message}
 
@@ -89,9 +90,12 @@ module _ (π : Projection) where
         ∙ ap (digits bits K) (digits-mod A low) ∙ digits-again bits bits-fit K (m .tops) (s .tops) in
         λ i. record { parity = ep i; values = ev i; tops = et i }
 
-  -- words have the code's width
+  -- a word is a number of m digits in base 16, and the number of its columns
   sixteens : 16 ^ size π ≡ 2 ^ width π
   sixteens = pow-mul 2 4 (size π)
+
+  pub number-word : (x : ℕ) → x < 2 ^ width π → wordNumber (word π x) ≡ x
+  number-word x h = number-again columns columns-fit (size π) x (subst (λ (b : ℕ). x < b) (sym sixteens) h)
 
 -- ten columns make a word of at most 40 bits
 pub word-below : (cs : List Column) → length cs ≤ 10 → wordNumber cs < 2 ^ 40
@@ -102,20 +106,21 @@ word-below cs h =
 -- two words with the same columns are one
 pub same-columns : (π : Projection) (x y : ℕ) → x < 2 ^ width π → y < 2 ^ width π → word π x ≡ word π y → x ≡ y
 same-columns π x y hx hy e =
-    sym (number-again columns columns-fit (size π) x (subst (λ (b : ℕ). x < b) (sym (sixteens π)) hx))
-    ∙ ap wordNumber e ∙ number-again columns columns-fit (size π) y (subst (λ (b : ℕ). y < b) (sym (sixteens π)) hy)
+    sym (number-word π x hx) ∙ ap wordNumber e ∙ number-word π y hy
 
 module _ (π : Projection) (sys : Systematic π) where
   -- the columns of a message's codeword
   pub word-encode : (n : ℕ) → word π (encode π n) ≡ codewordOf π (messageOf π n)
   unfolding encode
-  word-encode n = digits-again columns columns-fit (size π) (codewordOf π (messageOf π n)) (length-codeword π sys (messageOf π n) (message-sized π n))
+  word-encode n =
+      digits-again columns columns-fit (size π) (codewordOf π (messageOf π n)) (length-codeword π sys (messageOf π n) (message-sized π n))
 
   pub encode-below : (n : ℕ) → encode π n < 2 ^ width π
   unfolding encode
   encode-below n =
       subst (λ (x : ℕ). encode π n < x) (sixteens π)
-      (subst (λ (k : ℕ). encode π n < 16 ^ k) (length-codeword π sys (messageOf π n) (message-sized π n)) (number-lt columns columns-fit (codewordOf π (messageOf π n))))
+      (subst (λ (k : ℕ). encode π n < 16 ^ k) (length-codeword π sys (messageOf π n) (message-sized π n))
+      (number-lt columns columns-fit (codewordOf π (messageOf π n))))
 
   pub encode-codeword : (n : ℕ) → isCodeword π (word π (encode π n)) ≡ true
   encode-codeword n =
@@ -136,7 +141,7 @@ module _ (π : Projection) (sys : Systematic π) where
     parts = parity-of π cs c
 
     fit : Sized π (messageIn π (word π x))
-    fit = sized π sys cs (length-digits columns (size π) x)
+    fit = sized π sys cs (length-word π x)
 
     pub decode-below : decode π x < 2 ^ messageBits π
     unfolding decode
@@ -145,6 +150,6 @@ module _ (π : Projection) (sys : Systematic π) where
     pub encode-decode : encode π (decode π x) ≡ x
     unfolding encode decode
     encode-decode =
-        ap (λ (m : Message). numberOf columns (codewordOf π m)) (number-message π (messageIn π cs) fit)
-        ∙ ap (numberOf columns) (codeword-of-message π sys (parts .0) cs (length-digits columns (size π) x) (parts .1))
-        ∙ number-again columns columns-fit (size π) x (subst (λ (y : ℕ). x < y) (sym (sixteens π)) h)
+        ap (λ (m : Message). wordNumber (codewordOf π m)) (number-message π (messageIn π cs) fit)
+        ∙ ap wordNumber (codeword-of-message π sys (parts .0) cs (length-word π x) (parts .1))
+        ∙ number-word π x h

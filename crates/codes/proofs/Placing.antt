@@ -8,16 +8,15 @@ use mathlib.Core.List.{List, [], _∷_, map}
 use Prim.Native.Nat.{ℕ, zero, suc, _<_}
 use native.Mathlib.Omega.{arith}
 use lib.Dec.{T}
-use lib.ListN.{length}
-use Rattle.symbols.specs.Symbol.{Symbol, s0, Symbol-discrete, isZero}
+use lib.ListN.{length, length-map}
+use Rattle.symbols.specs.Symbol.{Symbol, s0, Symbol-discrete}
 use Rattle.symbols.proofs.Every.{symbols, passes, passed, and-left, and-right}
-use Rattle.symbols.proofs.Symbols.{add-comm, add-zero, add-self}
+use Rattle.symbols.proofs.Symbols.{add-comm, add-zero}
 use Rattle.codes.specs.Vector.{zeros, addV, isZeroV}
 use Rattle.codes.specs.Projection.{Projection, count, size}
 use Rattle.codes.specs.Word.{syndrome}
 use Rattle.codes.specs.Message.{place, chosen, allValues}
-use Rattle.codes.proofs.Vectors.{shaped, length-syndrome, syndrome-add, zero-sum}
-use Rattle.codes.proofs.Words.{length-map}
+use Rattle.codes.proofs.Vectors.{shaped, length-syndrome, addV-self, syndrome-add, zero-sum-same}
 
 pub length-place : (l : List Bool) (fs ds : List Symbol) → length (place l fs ds) ≡ length l
 length-place [] fs ds = refl
@@ -61,10 +60,6 @@ place-zeros (true ∷ l) [] k = ap (λ (x : List Symbol). s0 ∷ x) (place-zeros
 place-zeros (true ∷ l) (f ∷ fs) k = ap (λ (x : List Symbol). f ∷ x) (place-zeros l fs k)
 place-zeros (false ∷ l) fs zero = refl
 place-zeros (false ∷ l) fs (suc k) = ap (λ (x : List Symbol). s0 ∷ x) (place-zeros l fs k)
-
-sum-self : (x : List Symbol) → isZeroV (addV x x) ≡ true
-sum-self [] = refl
-sum-self (x ∷ xs) = ap₂ _&&_ (ap isZero (add-self x)) (sum-self xs)
 
 -- a test of every vector of k symbols
 abbrev pub vectors : ℕ → (List Symbol → Bool) → Bool
@@ -121,7 +116,7 @@ module _ (π : Projection) (sys : Systematic π) where
   pub values-zero : (fs : List Symbol) → isZeroV (syndrome (π .rows) (π .matrix) (allValues π fs)) ≡ true
   values-zero fs =
       let s = S (place (π .free) fs []) in
-      ap isZeroV (syndrome-placed fs s (length-syndrome (π .rows) (π .matrix) (sys .shape) (place (π .free) fs []))) ∙ sum-self s
+      ap isZeroV (syndrome-placed fs s (length-syndrome (π .rows) (π .matrix) (sys .shape) (place (π .free) fs []))) ∙ addV-self s
 
   pub chosen-values : (fs : List Symbol) → length fs ≡ count (π .free) → chosen (π .free) (allValues π fs) ≡ fs
   chosen-values fs e = chosen-place (π .free) fs (S (place (π .free) fs [])) e
@@ -133,7 +128,7 @@ module _ (π : Projection) (sys : Systematic π) where
       let fs = chosen l vs in
       let ds = chosen (map not l) vs in
       let el : length vs ≡ length l = e ∙ sym (sys .marks) in
-      let ed : length ds ≡ π .rows = length-chosen (map not l) vs (el ∙ sym (length-map not l)) ∙ sys .others in
+      let ed : length ds ≡ π .rows = length-chosen (map not l) vs (el ∙ sym (length-map l not)) ∙ sys .others in
       let whole = place-chosen l vs el in
       let zero : isZeroV (addV (S (place l fs [])) ds) ≡ true = ap isZeroV (sym (syndrome-placed fs ds ed) ∙ ap S whole) ∙ z in
-      ap (place l fs) (zero-sum (S (place l fs [])) ds (length-syndrome (π .rows) (π .matrix) (sys .shape) (place l fs []) ∙ sym ed) zero) ∙ whole
+      ap (place l fs) (zero-sum-same (S (place l fs [])) ds (length-syndrome (π .rows) (π .matrix) (sys .shape) (place l fs []) ∙ sym ed) zero) ∙ whole

@@ -3,10 +3,10 @@
 use mathlib.Core.Path.{_≡_, refl, sym, ap, ap₂, _∙_, subst}
 use mathlib.Core.Bool.{Bool, true, false, cond}
 use mathlib.Core.List.{List, [], _∷_, map}
-use Prim.Native.Nat.{ℕ, zero, suc, _+_, _-_, _*_, _^_, _≤_, _<_}
+use Prim.Native.Nat.{ℕ, zero, suc, _+_, _*_, _^_, _≤_, _<_}
 use native.Mathlib.Nat.{lt-of-le-of-lt}
 use native.Mathlib.Omega.{arith}
-use lib.ListN.{length, getD, take, drop, List·getD-map}
+use lib.ListN.{length, getD, take, drop, List·getD-map, length-map}
 use lib.Seq.{drop-cons, getD-take}
 use Rattle.symbols.specs.Symbol.{Symbol, symbolNumber}
 use Rattle.symbols.specs.Column.{Column, value, parity, top, one, columnOf}
@@ -20,7 +20,6 @@ use Rattle.codes.proofs.Placing.{Systematic}
 use Rattle.codes.proofs.Encoding.{sized}
 use Rattle.codes.proofs.Messages.{message-below}
 use Rattle.codes.proofs.Walks.{length-held, held-from}
-use Rattle.codes.proofs.Words.{length-map}
 
 -- a column's value joins the number where the column is free
 chosen-next : (n : ℕ) (b : Bool) (l : List Bool) (v : Symbol) (vs : List Symbol) →
@@ -39,12 +38,12 @@ module _ (π : Projection) (sys : Systematic π) (a : List ℕ) (room : size π 
   cs = held π a
 
   long : length (held π a) ≡ size π
-  long = length-held π (sys .shape) a room
+  long = length-held π a room
 
   -- before the first column
   pub read-start : followed symbols (one (parity (columnOf (getD a 0 0)))) (chosen (π .free) (map value (held π a))) ≡ highPart π (held π a)
   read-start =
-      let first : held π a ≡ columnOf (getD a 0 0) ∷ drop 1 (held π a) = held-from π (sys .shape) a room 0 (sys .some) in
+      let first : held π a ≡ columnOf (getD a 0 0) ∷ drop 1 (held π a) = held-from π a room 0 (sys .some) in
       ap₂ (λ (p : Bool) (k : ℕ). one p * 4 ^ k + numberOf symbols (chosen (π .free) (map value cs))) (sym (ap firstParity first)) (sized π sys cs long .values)
 
   pub read-value : (i n : ℕ) → i < size π →
@@ -52,7 +51,8 @@ module _ (π : Projection) (sys : Systematic π) (a : List ℕ) (room : size π 
       ≡ followed symbols (cond (getD (π .free) i false) (n * 4 + symbolNumber (value (columnOf (getD a i 0)))) n)
       (chosen (drop (suc i) (π .free)) (map value (drop (suc i) (held π a))))
   read-value i n h =
-      ap₂ (λ (l : List Bool) (xs : List Column). followed symbols n (chosen l (map value xs))) (drop-cons (π .free) i false (omega (arith, sys .marks))) (held-from π (sys .shape) a room i h)
+      ap₂ (λ (l : List Bool) (xs : List Column). followed symbols n (chosen l (map value xs)))
+      (drop-cons (π .free) i false (omega (arith, sys .marks))) (held-from π a room i h)
       ∙ chosen-next n (getD (π .free) i false) (drop (suc i) (π .free)) (value (columnOf (getD a i 0))) (map value (drop (suc i) cs))
 
   -- the whole, before the top bits are read
@@ -63,7 +63,7 @@ module _ (π : Projection) (sys : Systematic π) (a : List ℕ) (room : size π 
       followed bits n (drop i (butLast (map top (held π a)))) ≡ followed bits (n * 2 + one (top (columnOf (getD a i 0)))) (drop (suc i) (butLast (map top (held π a))))
   read-top i n h =
       ap (followed bits n)
-      (but-last-from (map top cs) i (omega (arith, long, length-map top cs))
+      (but-last-from (map top cs) i (omega (arith, long, length-map cs top))
       ∙ ap (λ (b : Bool). b ∷ drop (suc i) (butLast (map top cs)))
       (List·getD-map top cs i (columnOf 0) ∙ ap top (List·getD-map columnOf (take (size π) a) i 0 ∙ ap columnOf (getD-take (size π) a i 0 (omega arith)))))
       ∙ followed-next bits n (top (columnOf (getD a i 0))) (drop (suc i) (butLast (map top cs)))

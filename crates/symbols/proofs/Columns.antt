@@ -1,5 +1,6 @@
 -- The laws of columns. Value, parity and top bit add, and the three together fix a column; weight is bounded below by parity
--- and value, and above by the weights of summands. Each is a test over all columns. Assumes nothing.
+-- and value, and above by the weights of summands. Each is a test over all columns.
+-- Assumes nothing.
 use mathlib.Core.Path.{_≡_, ap₂}
 use mathlib.Core.Bool.{Bool, true, false, not, _&&_, Bool-discrete}
 use Prim.Native.Nat.{_+_, _*_, _≤_}
@@ -34,7 +35,7 @@ pub top-with : (p : Bool) (v : Symbol) (t : Bool) → top (columnWith p v t) ≡
 unfolding columnWith
 top-with p v t = law (bits ⊗ symbols ⊗ bits) Bool-discrete (λ (p, (v, t)). top (columnWith p v t)) (λ (p, (v, t)). t) tt (p, (v, t))
 
--- an odd column has a one; an even one has two unless its value is 0, and then none or four
+-- an odd column has a one; an even one has two unless its value is 0, and then four or none, by its top bit
 pub odd-weight : (c : Column) → parity c ≡ true → 1 ≤ weight c
 odd-weight c e = leb→le 1 (weight c) (implied columns parity (λ c. leb 1 (weight c)) tt c e)
 

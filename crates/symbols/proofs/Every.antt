@@ -1,5 +1,6 @@
--- Laws over finite types. A test is computed at every value of the type; that it passes everywhere is then its own proof, `tt`,
--- and `at` or `law` turns it into the fact at one value. Several variables are a tuple: `bits ⊗ symbols ⊗ columns`.
+-- Laws over finite types: bits, symbols, columns, tuples of them, and the numbers below a bound.
+-- A test is computed at every value of the type; that it passes everywhere is then its own proof, `tt`, and `at`, `law` or `implied`
+-- turns it into the fact at one value. Several variables are a tuple: `bits ⊗ symbols ⊗ columns`.
 -- Assumes nothing.
 use mathlib.Core.Path.{_≡_, refl, sym, subst}
 use mathlib.Core.Bool.{Bool, true, false, not, _&&_, _||_}
@@ -90,6 +91,9 @@ law p d f g t a = passed (d (f a) (g a)) (p .at (λ a. passes (d (f a) (g a))) t
 pub law-below : {B : Type 0} (n : ℕ) (d : Discrete B) (f g : ℕ → B) → T (below n (λ k. passes (d (f k) (g k)))) → (k : ℕ) → k < n → f k ≡ g k
 law-below n d f g t k h = passed (d (f k) (g k)) (at-below n (λ k. passes (d (f k) (g k))) t k h)
 
--- one test passes wherever another does
+-- where a test that is an implication passes, and one that passes at every value of a type
+pub implies : (a b : Bool) → T (not a || b) → a ≡ true → T b
+implies a b t e = subst (λ (x : Bool). T (not x || b)) e t
+
 pub implied : {A : Type 0} (p : Every A) (f g : A → Bool) → T (p .all (λ a. not (f a) || g a)) → (a : A) → f a ≡ true → T (g a)
-implied p f g t a e = subst (λ (b : Bool). T (not b || g a)) e (p .at (λ a. not (f a) || g a) t a)
+implied p f g t a e = implies (f a) (g a) (p .at (λ a. not (f a) || g a) t a) e

@@ -1,4 +1,6 @@
 -- Symbols and columns as numbers: there and back, modulo 4 and 16, and tables that are indexed by such numbers.
+-- There and back is a test over the type, or over the numbers below 4 or 16. A number's lowest bits are those of its remainder, so what
+-- is tested below 4 or 16 holds of every number, taken modulo 4 or 16.
 -- Assumes nothing.
 use mathlib.Core.Path.{_≡_, ap, ap₂, _∙_}
 use mathlib.Core.Bool.{Bool-discrete}
@@ -40,8 +42,8 @@ symbol-mod n = ap₂ symbol (bit-mod 1 0 n) (bit-mod 0 1 n)
 pub column-mod : (n : ℕ) → columnOf (n % 16) ≡ columnOf n
 column-mod n = cc (bit-mod 3 0 n, bit-mod 2 1 n, bit-mod 1 2 n, bit-mod 0 3 n)
 
--- A table that is packed into one number w, over the columns or over pairs of symbols: f reads an entry of it. Where each entry
--- agrees with the rule g, so does what is read at any number.
+-- a table that is packed into one number w, over the columns or over pairs of symbols: f reads an entry of it. Where each entry
+-- agrees with the rule g, so does what is read at any number
 pub by-column : {B : Type 0} (d : Discrete B) (f : ℕ → ℕ → B) (w : ℕ) (g : Column → B) →
     T (below 16 (λ k. passes (d (f w k) (g (columnOf k))))) → (n : ℕ) → f w (n % 16) ≡ g (columnOf n)
 by-column d f w g t n = law-below 16 d (f w) (λ k. g (columnOf k)) t (n % 16) (mod-lt n (lit< tt)) ∙ ap g (column-mod n)
@@ -52,5 +54,6 @@ pub by-symbols : (f : ℕ → ℕ → ℕ → ℕ) (w : ℕ) (g : Symbol → Sym
 by-symbols f w g t x y =
     eqb→eq _ _
     (at-below 4 (λ y. eqb (f w (x % 4) y) (symbolNumber (g (symbolOf (x % 4)) (symbolOf y))))
-    (at-below 4 (λ x. below 4 (λ y. eqb (f w x y) (symbolNumber (g (symbolOf x) (symbolOf y))))) t (x % 4) (mod-lt x (lit< tt))) (y % 4) (mod-lt y (lit< tt)))
+    (at-below 4 (λ x. below 4 (λ y. eqb (f w x y) (symbolNumber (g (symbolOf x) (symbolOf y))))) t (x % 4) (mod-lt x (lit< tt)))
+    (y % 4) (mod-lt y (lit< tt)))
     ∙ ap₂ (λ (a b : Symbol). symbolNumber (g a b)) (symbol-mod x) (symbol-mod y)

@@ -1,5 +1,6 @@
--- The laws of the four symbols that coding theory needs: they are a field in which each element is its own negative.
--- Each is a test over all symbols, and so are the same laws of bits. Assumes nothing.
+-- The laws of the four symbols, which are a field in which each element is its own negative, and those of bits under exclusive or.
+-- Each is a test over all symbols, or over all bits.
+-- Assumes nothing.
 use mathlib.Core.Path.{_≡_}
 use mathlib.Core.Bool.{Bool, false, Bool-discrete, _||_}
 use Rattle.symbols.specs.Symbol.{_⊻_, Symbol, s0, Symbol-discrete, isZero, add, mul}
@@ -38,6 +39,6 @@ pub add-mul : (x y z : Symbol) → mul (add x y) z ≡ add (mul x z) (mul y z)
 add-mul x y z =
     law (symbols ⊗ symbols ⊗ symbols) Symbol-discrete (λ (x, (y, z)). mul (add x y) z) (λ (x, (y, z)). add (mul x z) (mul y z)) tt (x, (y, z))
 
--- a product is zero only where one of the two is
+-- a product is zero just where one of the two is
 pub mul-zero : (x y : Symbol) → isZero (mul x y) ≡ (isZero x || isZero y)
 mul-zero x y = law (symbols ⊗ symbols) Bool-discrete (λ (x, y). isZero (mul x y)) (λ (x, y). isZero x || isZero y) tt (x, y)

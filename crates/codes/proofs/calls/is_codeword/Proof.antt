@@ -1,8 +1,7 @@
 -- `codes::calls::is_codeword` meets its contract: each test settles one part of the verdict.
 -- Assumes nothing.
-use mathlib.Core.Path.{_≡_, refl, sym, ap, _∙_, subst}
+use mathlib.Core.Path.{_≡_, refl, sym, ap, _∙_}
 use mathlib.Core.Bool.{Bool, true, false, not, Bool·beq, Bool-discrete}
-use Prim.Native.Nat.{ℕ, _<_}
 use native.Mathlib.Omega.{arith}
 use borrow.Author.Needs.{needs}
 use borrow.Author.Tests.{eq-eqb, ne-eqb}
@@ -12,7 +11,7 @@ use Rattle.codes.specs.Projection.{wanted, size}
 use Rattle.codes.specs.Word.{isCodeword}
 use Rattle.codes.specs.Codes.{projection}
 use Rattle.codes.specs.Walk.{held}
-use Rattle.codes.proofs.Codes.{size-le, byte-holds-rows, systematic}
+use Rattle.codes.proofs.Codes.{size-le, packed-lt, systematic}
 use Rattle.codes.proofs.Strict.{verdict, judged}
 use Rattle.codes.proofs.Walks.{length-held}
 use Rattle.codes.proofs.calls.is_codeword.Statement.{statement}
@@ -34,8 +33,8 @@ settled w z even odd ez ee eo =
     let π = projection (a .code) in
     let r = w .walk-columns .result in
     sym (judged π (held π (a .columns)) (r .syndrome) (r .top) (r .odd)
-    (length-held π (systematic (a .code) .shape) (a .columns) (omega (arith, size-le (a .code))))
-    (subst (λ (n : ℕ). r .syndrome < n) (sym (byte-holds-rows (a .code))) (omega (arith, w .walk-columns .ok)))
+    (length-held π (a .columns) (omega (arith, size-le (a .code))))
+    (packed-lt (a .code) (omega (arith, w .walk-columns .ok)))
     (w .walk-columns .ensures)
     ∙ (λ i. verdict (ez i) (ee i) (eo i) (r .top) (wanted (π .rule) true)))
 

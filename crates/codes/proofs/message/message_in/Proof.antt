@@ -7,7 +7,7 @@ use native.Mathlib.Nat.{lt-of-lt-of-le}
 use native.Mathlib.Omega.{arith}
 use native.Mathlib.Numerals.{add-one}
 use borrow.Author.Needs.{needs}
-use lib.ListN.{length, drop, drop-of-length-le}
+use lib.ListN.{length, drop, drop-of-length-le, length-map}
 use lib.Pow.{pow-mono}
 use Rattle.symbols.specs.Column.{top, one}
 use Rattle.symbols.proofs.Columns.{one-le}
@@ -19,7 +19,6 @@ use Rattle.codes.specs.Walk.{held}
 use Rattle.codes.proofs.Digits.{bits-fit}
 use Rattle.codes.proofs.Horner.{followed, followed-none, followed-le}
 use Rattle.codes.proofs.Codes.{size-le, bits-le, systematic}
-use Rattle.codes.proofs.Words.{length-map}
 use Rattle.codes.proofs.Walks.{length-held}
 use Rattle.codes.proofs.Encoding.{length-but-last}
 use Rattle.codes.proofs.Readings.{read-tops, read-top, message-bounded}
@@ -105,7 +104,7 @@ returns c =
     let l = c .before .before .loop in
     let tops = butLast (map top (held π a)) in
     let size-of : length tops ≡ size π - 1 =
-    length-but-last (map top (held π a)) ∙ ap (λ (n : ℕ). n - 1) (length-map top (held π a) ∙ length-held π (systematic code .shape) a (omega (arith, size-le code))) in
+    length-but-last (map top (held π a)) ∙ ap (λ (n : ℕ). n - 1) (length-map (held π a) top ∙ length-held π a (omega (arith, size-le code))) in
     sym (followed-none bits (l .number))
     ∙ ap (followed bits (l .number)) (sym (drop-of-length-le tops {i = l .i} (omega (arith, c .before .columns .ensures))))
     ∙ l .inv .1

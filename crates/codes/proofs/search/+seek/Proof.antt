@@ -16,7 +16,8 @@ use Rattle.codes.proofs.Codes.{size-le}
 use Rattle.codes.proofs.Words.{codeword-parts, same-bit}
 use Rattle.codes.proofs.Walks.{xor-code}
 use Rattle.codes.proofs.Differences.{lacks-none}
-use Rattle.codes.proofs.Searches.{sought-one, sought-none, row-small, lacks-other, column-ahead, column-inside, seek-skip, seek-row, seek-none, seek-found}
+use Rattle.codes.proofs.Searches.{sought-one, sought-none}
+use Rattle.codes.proofs.Seeking.{row-small, lacks-other, column-ahead, column-inside, seek-skip, seek-row, seek-none, seek-found}
 use Rattle.codes.proofs.Tables.{searchable}
 use Rattle.codes.proofs.search.seek.Reads as seek
 use Rattle.codes.proofs.search.seek.Kinds as kinds

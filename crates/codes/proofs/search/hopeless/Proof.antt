@@ -6,9 +6,10 @@ use native.Mathlib.Omega.{arith}
 use borrow.Author.Needs.{needs}
 use borrow.Author.Tests.{eqb-true}
 use Rattle.codes.specs.Codes.{projection}
+use Rattle.codes.proofs.Codes.{packed-lt}
 use Rattle.codes.proofs.Differences.{entry-at}
 use Rattle.codes.proofs.Searches.{hopeless}
-use Rattle.codes.proofs.Tables.{searchable, packed-lt}
+use Rattle.codes.proofs.Tables.{searchable}
 use Rattle.codes.proofs.search.hopeless.Statement.{statement}
 use Rattle.codes.proofs.search.hopeless.Tie as tie
 

@@ -6,7 +6,8 @@ use native.Mathlib.Omega.{arith}
 use borrow.Author.Needs.{needs}
 use Rattle.symbols.specs.Symbol.{_⊻_}
 use Rattle.codes.proofs.Walks.{xor-code}
-use Rattle.codes.proofs.Searches.{sought-none, seek-start, too-many}
+use Rattle.codes.proofs.Searches.{sought-none}
+use Rattle.codes.proofs.Seeking.{seek-start, too-many}
 use Rattle.codes.proofs.search.of_parity.Statement.{statement}
 use Rattle.codes.proofs.search.of_parity.Tie as tie
 

@@ -14,16 +14,13 @@ use Rattle.codes.specs.declared.code.Code.{Code}
 use Rattle.codes.specs.Codes.{projection}
 use Rattle.codes.specs.Word.{isCodewordOf}
 use Rattle.codes.specs.Search.{entryTable, Within, Sought}
-use Rattle.codes.proofs.Codes.{size-le}
+use Rattle.codes.proofs.Codes.{size-le, packed-lt}
 use Rattle.codes.proofs.Differences.{Named, entry-at, entry-names}
-use Rattle.codes.proofs.Searches.{sought-none, sought-word, settle-here, settle-off, settle-few, settle-none, settle-pair}
-use Rattle.codes.proofs.Tables.{searchable, packed-lt}
+use Rattle.codes.proofs.Searches.{sought-none, sought-word}
+use Rattle.codes.proofs.Settling.{settle-here, settle-off, settle-few, settle-none, settle-pair}
+use Rattle.codes.proofs.Tables.{searchable}
 use Rattle.codes.proofs.search.settle.Statement.{statement}
 use Rattle.codes.proofs.search.settle.Tie as tie
-use Rattle.codes.proofs.search.settle.Reads as reads
-use Rattle.codes.proofs.search.settle.Lts as lts
-use Rattle.codes.proofs.search.inverted.Reads as inverted-reads
-use Rattle.symbols.proofs.column_with.Reads as column-with-reads
 
 returns : tie.Need-returns
 returns c =

@@ -7,7 +7,8 @@ use native.Mathlib.Omega.{arith}
 use borrow.Author.Needs.{needs}
 use Rattle.codes.specs.Codes.{projection}
 use Rattle.codes.proofs.Codes.{size-le}
-use Rattle.codes.proofs.Searches.{sought-one, odd-lacks, within-any, sought-either}
+use Rattle.codes.proofs.Searches.{sought-one}
+use Rattle.codes.proofs.Seeking.{odd-lacks, within-any, sought-either}
 use Rattle.codes.proofs.search.within_three.Statement.{statement}
 use Rattle.codes.proofs.search.within_three.Tie as tie
 
