@@ -1,4 +1,6 @@
--- Words in arrays: a column stored below those that are stored already, and the word that an array holds.
+-- Words and tables in arrays: a column stored below those that are stored already, the table of scaled columns, and a table of a function.
+-- The columns of a number are its digits in base 16, stored from the last to the first, so one more is the next quotient's remainder. The
+-- scaled columns of the matrix stand four by four, in the order of the columns and of the symbols.
 -- Assumes nothing.
 use mathlib.Core.Path.{_≡_, refl, sym, ap, ap₂, _∙_}
 use mathlib.Core.List.{List, [], _∷_, _++_, map}
@@ -15,7 +17,8 @@ use Rattle.codes.specs.Vector.{scale}
 use Rattle.codes.specs.Projection.{Projection, size}
 use Rattle.codes.specs.Walk.{scaled, scaledColumns}
 
-pub drop-set : (l : List ℕ) (j v : ℕ) → j < length l → drop j (set l j v) ≡ v ∷ drop (suc j) l
+-- an array from the place on where an element is stored
+drop-set : (l : List ℕ) (j v : ℕ) → j < length l → drop j (set l j v) ≡ v ∷ drop (suc j) l
 drop-set l j v h =
     drop-cons (set l j v) j 0 (lt-length-set l j v h) ∙ ap₂ _∷_ (getD-set-same l j v 0 h) (drop-set-lt (suc j) l j v (omega arith))
 
@@ -33,7 +36,8 @@ length-scaled : (H : List (List Symbol)) → length (scaled H) ≡ 4 * length H
 length-scaled [] = refl
 length-scaled (h ∷ hs) = omega (arith, length-scaled hs)
 
-scaled-entry : (H : List (List Symbol)) (i v : ℕ) → i < length H → v < 4 → getD (scaled H) (4 * i + v) 0 ≡ numberOf symbols (scale (symbolOf v) (getD H i []))
+scaled-entry : (H : List (List Symbol)) (i v : ℕ) → i < length H → v < 4 →
+    getD (scaled H) (4 * i + v) 0 ≡ numberOf symbols (scale (symbolOf v) (getD H i []))
 scaled-entry [] i v h l = absurd (omega arith)
 scaled-entry (h ∷ hs) zero v hi hv = first v hv
   where

@@ -23,7 +23,7 @@ use Rattle.codes.specs.Claims.{IsCodeword, RoundTrip, OneMessage, Strict
 use Rattle.codes.proofs.Digits.{length-digits}
 use Rattle.codes.proofs.Words.{parity-of, is-codeword, codeword-sum}
 use Rattle.codes.proofs.Distance.{close-same}
-use Rattle.codes.proofs.Messages.{encode-below, encode-codeword, decode-encode, decode-below, encode-decode, same-columns}
+use Rattle.codes.proofs.Messages.{encode-below, encode-codeword, decode-encode, decode-below, encode-decode, word-injective}
 use Rattle.codes.proofs.Codes.{systematic, apart}
 use Rattle.codes.proofs.Answers.{row-met, row-passed}
 use Rattle.codes.proofs.Mends as mends
@@ -76,7 +76,7 @@ eight-apart c x y k l differ = go (leb 8 (distance (word (projection c) x) (word
         let π = projection c in
         let a = parity-of π (word π x) (k .1) in
         let b = parity-of π (word π y) (l .1) in
-        absurd (differ (same-columns π x y (k .0) (l .0)
+        absurd (differ (word-injective π x y (k .0) (l .0)
         (close-same π (apart c) (a .0) (b .0) (word π x) (word π y) (length-digits columns (size π) x) (length-digits columns (size π) y) (a .1) (b .1)
         (omega (arith, leb-false 8 (distance (word π x) (word π y)) e)))))
 

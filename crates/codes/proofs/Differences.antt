@@ -1,7 +1,8 @@
 -- What a word's parities and syndrome say of its difference from a codeword.
 -- A column of another parity than the codeword's differs in a position. The difference's syndrome is the word's, so where no choice of at
 -- most k live values has that syndrome, the difference has more than k live columns: each has a one, and two where all columns are even.
--- The table of entries tells this for k = 0 and 1, and names the one live column else: a computed test of all syndromes.
+-- For k = 0 that is so of a syndrome other than zero, for k = 1 of one that has no entry in the table; an entry names a column and a value
+-- that have the syndrome. These are computed tests of all syndromes.
 -- Assumes nothing.
 use mathlib.Core.Path.{_≡_, refl, sym, ap, ap₂, _∙_, subst}
 use mathlib.Core.Bool.{Bool, true, false, not, _&&_, _||_}
@@ -23,9 +24,9 @@ use Rattle.codes.proofs.Vectors.{addV-assoc, add-zero-vector, addV-self
 use Rattle.codes.proofs.Words.{length-sum, syndrome-sum, parity-first, parity-rest, parity-cons, count-cons}
 use Rattle.codes.proofs.Distance.{isLive, live, onlyZeros, only-zeros, even-word-weight, test-true}
 
--- columns that lack a parity
-lacks-bit : (p : Bool) (x y : Column) → parity y ≡ p → one (p ⊻ parity x) ≤ weight (x ⊕ y)
-lacks-bit p x y e =
+-- a column, and a word, differs from one that has the parity in at least as many positions as columns lack it
+lacks-weight : (p : Bool) (x y : Column) → parity y ≡ p → one (p ⊻ parity x) ≤ weight (x ⊕ y)
+lacks-weight p x y e =
     subst (λ (q : Bool). one (q ⊻ parity x) ≤ weight (x ⊕ y)) e
     (leb→le _ _ ((all-columns ⊗ all-columns) .at (λ (x, y). leb (one (parity y ⊻ parity x)) (weight (x ⊕ y))) tt (x, y)))
 
@@ -36,14 +37,21 @@ lacks-distance p (x ∷ xs) (y ∷ ys) e t =
     omega (
       arith,
       count-cons (p ⊻ parity x) (map (λ c. p ⊻ parity c) xs),
-      lacks-bit p x y (parity-first p y ys t),
+      lacks-weight p x y (parity-first p y ys t),
       lacks-distance p xs ys (omega arith) (parity-rest p y ys t),
     )
 
+-- each column lacks one of the parities; where none lacks a parity, all have it
 pub lacks-both : (cs : List Column) → lacks true cs + lacks false cs ≡ length cs
 lacks-both [] = refl
 lacks-both (c ∷ cs) =
-    omega (arith, lacks-both cs, count-cons (not (parity c)) (map (λ c. not (parity c)) cs), count-cons (parity c) (map parity cs), one-either (parity c))
+    omega (
+      arith,
+      lacks-both cs,
+      count-cons (not (parity c)) (map (λ c. not (parity c)) cs),
+      count-cons (parity c) (map parity cs),
+      one-either (parity c),
+    )
   where
     one-either : (b : Bool) → one (not b) + one b ≡ 1
     one-either true = refl
@@ -61,12 +69,13 @@ lacks-none p (c ∷ cs) e =
     agree false true z = absurd (omega arith)
     agree false false z = refl
 
--- live columns
+-- each live column has a one
 live-weight : (cs : List Column) → live (map value cs) ≤ weightOf cs
 live-weight [] = omega arith
 live-weight (c ∷ cs) =
     omega (arith, leb→le (isLive (value c)) (weight c) (all-columns .at (λ c. leb (isLive (value c)) (weight c)) tt c), live-weight cs)
 
+-- f is a word with syndrome s, which no choice of at most l live values has, and c one with syndrome zero
 module _ (π : Projection) (l : ℕ) (s : List Symbol) (test : T (onlyZeros (π .matrix) l s false)) (f c : List Column)
     (known : s ≡ syndromeOf π f) (no-syndrome : isZeroV (syndromeOf π c) ≡ true) (ef : length f ≡ size π) (ec : length c ≡ size π) where
   none-live : live (map value (f ⊞ c)) ≤ l → ⊥
@@ -78,44 +87,50 @@ module _ (π : Projection) (l : ℕ) (s : List Symbol) (test : T (onlyZeros (π 
       (ap₂ (λ (x y : List Symbol). isZeroV (addV x y)) known (syndrome-sum π f c e)
       ∙ ap isZeroV (sym (addV-assoc a a b)) ∙ add-zero-vector (addV a a) b no-syndrome ∙ addV-self a)
 
-  -- each live column has a one
   pub none-close : distance f c ≤ l → ⊥
   none-close h = none-live (omega (arith, live-weight (f ⊞ c)))
 
-  -- where the difference is even, each has two
+  -- where the difference is even, each live column has two ones
   pub none-even : allParity false (f ⊞ c) ≡ true → distance f c ≤ 2 * l + 1 → ⊥
   none-even t h = none-live (omega (arith, even-word-weight (f ⊞ c) t))
 
--- an entry names a column and a scale, not 0, that make the syndrome
+-- the packed syndrome of the column and the scale that an entry names, and the test that an entry names a column, and a scale other
+-- than 0, that make a syndrome
 abbrev makes : Projection → ℕ → ℕ
 makes π e = numberOf symbols (scale (symbolOf (e % 4)) (getD (π .matrix) (e / 4 - 1) []))
 
 abbrev names : Projection → ℕ → ℕ → Bool
 names π s e = leb 4 e && (ltb (e / 4 - 1) (size π) && (not (isZero (symbolOf (e % 4))) && eqb (makes π e) s))
 
--- the tests of a code's table
+-- the tests of a code's table: no syndrome but zero is made by no live value, none but zero that has no entry is made by one, and an entry
+-- names what makes the syndrome
 pub record Tabled (π : Projection) : Type 0 where
   pub nonzero : T (below (4 ^ π .rows) (λ s. eqb s 0 || onlyZeros (π .matrix) 0 (digits symbols (π .rows) s) false))
   pub unnamed : T (below (4 ^ π .rows) (λ s. (eqb s 0 || not (eqb (entry π s) 0)) || onlyZeros (π .matrix) 1 (digits symbols (π .rows) s) false))
   pub named : T (below (4 ^ π .rows) (λ s. eqb (entry π s) 0 || names π s (entry π s)))
 
+-- the entry e names what makes the syndrome s
 pub record Named (π : Projection) (s e : ℕ) : Type 0 where
   pub from : 4 ≤ e
   pub place : e / 4 - 1 < size π
   pub scaling : not (isZero (symbolOf (e % 4))) ≡ true
   pub made : makes π e ≡ s
 
+-- of two tests, one of which passes everywhere, the second passes where the first fails
 tested : (n : ℕ) (f g : ℕ → Bool) → T (below n (λ s. f s || g s)) → (s : ℕ) → s < n → f s ≡ false → T (g s)
 tested n f g t s h e = subst (λ (b : Bool). T (b || g s)) e (at-below n (λ s. f s || g s) t s h)
 
 module _ (π : Projection) (tabled : Tabled π) (s : ℕ) (small : s < 4 ^ π .rows) where
+  -- no choice of no live value, and of one, has the syndrome
   pub more-than-none : (s ≡ 0 → ⊥) → T (onlyZeros (π .matrix) 0 (digits symbols (π .rows) s) false)
-  more-than-none n = tested (4 ^ π .rows) (λ s. eqb s 0) (λ s. onlyZeros (π .matrix) 0 (digits symbols (π .rows) s) false) (tabled .nonzero) s small (ne-eqb s 0 n)
+  more-than-none n =
+      tested (4 ^ π .rows) (λ s. eqb s 0) (λ s. onlyZeros (π .matrix) 0 (digits symbols (π .rows) s) false) (tabled .nonzero) s small
+      (ne-eqb s 0 n)
 
   pub more-than-one : (s ≡ 0 → ⊥) → entry π s ≡ 0 → T (onlyZeros (π .matrix) 1 (digits symbols (π .rows) s) false)
   more-than-one n e =
-      tested (4 ^ π .rows) (λ s. eqb s 0 || not (eqb (entry π s) 0)) (λ s. onlyZeros (π .matrix) 1 (digits symbols (π .rows) s) false) (tabled .unnamed) s small
-      (ap₂ (λ (a b : Bool). a || not b) (ne-eqb s 0 n) (eq-eqb (entry π s) 0 e))
+      tested (4 ^ π .rows) (λ s. eqb s 0 || not (eqb (entry π s) 0)) (λ s. onlyZeros (π .matrix) 1 (digits symbols (π .rows) s) false)
+      (tabled .unnamed) s small (ap₂ (λ (a b : Bool). a || not b) (ne-eqb s 0 n) (eq-eqb (entry π s) 0 e))
 
   pub entry-names : (entry π s ≡ 0 → ⊥) → Named π s (entry π s)
   entry-names n =
@@ -133,7 +148,7 @@ module _ (π : Projection) (tabled : Tabled π) (s : ℕ) (small : s < 4 ^ π .r
         made = eqb→eq (makes π e) s (and-right c d v);
       }
 
--- an entry in the table
+-- a table's entries, as the array has them
 getD-table : (n k : ℕ) (f : ℕ → ℕ) (i : ℕ) → i < n → getD (tableFrom n k f) i 0 ≡ f (k + i)
 getD-table zero k f i h = absurd (omega arith)
 getD-table (suc n) k f zero h = ap f (omega arith)

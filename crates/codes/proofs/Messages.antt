@@ -1,6 +1,7 @@
--- Messages and words as numbers: what holds of lists of columns, of the numbers that the calls take and give.
+-- Messages and words as numbers: what holds of lists of columns holds of the numbers that the calls take and give.
 -- A message's number has p highest, then the free values in base 4, then the top bits in base 2, so that its parts are quotients
--- and remainders by powers of two.
+-- and remainders by powers of two. A word's number has its columns for digits in base 16. So a message below the code's limit, a message
+-- as its parts, its codeword's columns and the codeword's number are all each other's.
 -- Assumes nothing.
 use mathlib.Core.Path.{_≡_, sym, ap, ap₂, _∙_, subst}
 use mathlib.Core.Bool.{Bool, true}
@@ -23,20 +24,20 @@ use Rattle.codes.proofs.Digits.{number-digits, digits-remainder, digits
 use Rattle.codes.proofs.Sums.{pow-mul}
 use Rattle.codes.proofs.Words.{Codeword, parity-of, is-codeword, length-word}
 use Rattle.codes.proofs.Placing.{Systematic}
-use Rattle.codes.proofs.Encoding.{Sized, length-codeword, codeword-is, message-of-codeword, sized, codeword-of-message}
+use Rattle.codes.proofs.Encoding.{Sized, length-codeword, message-codeword, message-of-codeword, sized, codeword-of-message}
 
 module _ (π : Projection) where
+  -- the number of free values, and of the top bits that a message has
   abbrev F : ℕ
   F = count (π .free)
 
   abbrev K : ℕ
   K = topBits π
 
-  -- four to the power of the free values
   fours : 4 ^ count (π .free) ≡ 2 ^ (2 * count (π .free))
   fours = pow-mul 2 2 F
 
-  pub message-sized : (n : ℕ) → Sized π (messageOf π n)
+  message-sized : (n : ℕ) → Sized π (messageOf π n)
   message-sized n = record { values = length-digits symbols F (n / 2 ^ K); tops = length-digits bits K n }
 
   -- p is the bit above the values
@@ -51,6 +52,7 @@ module _ (π : Projection) where
   twice-fours : 2 ^ (1 + 2 * count (π .free)) ≡ 2 * 4 ^ count (π .free)
   twice-fours = pow-add 2 1 (2 * F) ∙ ap (λ (x : ℕ). 2 * x) (sym fours)
 
+  -- a message's number, and the message of a number
   pub message-number : (n : ℕ) → n < 2 ^ messageBits π → messageNumber π (messageOf π n) ≡ n
   message-number n h =
       let q = n / 2 ^ K in
@@ -62,6 +64,7 @@ module _ (π : Projection) where
       ap₂ (λ (x y : ℕ). x * 2 ^ K + y) high (number-digits bits bits-fit K n) ∙ div-add-mod' n (2 ^ K)
 
   module _ (m : Message) (s : Sized π m) where
+    -- the number of p and the values; below it are the top bits, and below p the values
     abbrev A : ℕ
     A = one (m .parity) * 4 ^ F + numberOf symbols (m .values)
 
@@ -104,13 +107,13 @@ word-below cs h =
     (subst (λ (x : ℕ). x ≤ 2 ^ 40) (sym (pow-mul 2 4 (length cs))) (pow-mono {i = 4 * length cs} {j = 40} (omega arith)))
 
 -- two words with the same columns are one
-pub same-columns : (π : Projection) (x y : ℕ) → x < 2 ^ width π → y < 2 ^ width π → word π x ≡ word π y → x ≡ y
-same-columns π x y hx hy e =
+pub word-injective : (π : Projection) (x y : ℕ) → x < 2 ^ width π → y < 2 ^ width π → word π x ≡ word π y → x ≡ y
+word-injective π x y hx hy e =
     sym (number-word π x hx) ∙ ap wordNumber e ∙ number-word π y hy
 
 module _ (π : Projection) (sys : Systematic π) where
-  -- the columns of a message's codeword
-  pub word-encode : (n : ℕ) → word π (encode π n) ≡ codewordOf π (messageOf π n)
+  -- a message's codeword has its columns, fits, is a codeword, and says the message again
+  word-encode : (n : ℕ) → word π (encode π n) ≡ codewordOf π (messageOf π n)
   unfolding encode
   word-encode n =
       digits-again columns columns-fit (size π) (codewordOf π (messageOf π n)) (length-codeword π sys (messageOf π n) (message-sized π n))
@@ -125,7 +128,7 @@ module _ (π : Projection) (sys : Systematic π) where
   pub encode-codeword : (n : ℕ) → isCodeword π (word π (encode π n)) ≡ true
   encode-codeword n =
       ap (isCodeword π) (word-encode n)
-      ∙ is-codeword π (messageOf π n .parity) (codewordOf π (messageOf π n)) (codeword-is π sys (messageOf π n) (message-sized π n))
+      ∙ is-codeword π (messageOf π n .parity) (codewordOf π (messageOf π n)) (message-codeword π sys (messageOf π n) (message-sized π n))
 
   pub decode-encode : (n : ℕ) → n < 2 ^ messageBits π → decode π (encode π n) ≡ n
   unfolding decode
@@ -134,6 +137,7 @@ module _ (π : Projection) (sys : Systematic π) where
       ∙ ap (messageNumber π) (message-of-codeword π sys (messageOf π n) (message-sized π n)) ∙ message-number π n h
 
   module _ (x : ℕ) (h : x < 2 ^ width π) (c : isCodeword π (word π x) ≡ true) where
+    -- a codeword's columns, its parity, and the sizes of what they say
     abbrev cs : List Column
     cs = word π x
 

@@ -26,7 +26,7 @@ use Rattle.codes.specs.Mending.{outsideIn, outside, wrong, ones}
 use Rattle.codes.proofs.Digits.{columns-fit, number-lt}
 use Rattle.codes.proofs.Words.{length-word, same-length, parity-of}
 use Rattle.codes.proofs.Distance.{Apart, close-same}
-use Rattle.codes.proofs.Messages.{number-word, same-columns}
+use Rattle.codes.proofs.Messages.{number-word, word-injective}
 use Rattle.codes.proofs.Sums.{pow-mul, zip, orIn, word-xor, word-or}
 
 -- two words differ at most in the marked positions and in those, unmarked, where one of them differs from a third: a bit, a column, a word
@@ -60,7 +60,7 @@ one-codeword π far w m x y hx hy kx ky h =
     let p = parity-of π (word π x) kx in
     let q = parity-of π (word π y) ky in
     let near = between (word π x) (word π y) (word π w) (word π m) (same-length π x w) (same-length π y w) (same-length π m w) in
-    same-columns π x y hx hy
+    word-injective π x y hx hy
     (close-same π far (p .0) (q .0) (word π x) (word π y) (length-word π x) (length-word π y) (p .1) (q .1) (omega arith))
 
 -- the word w with its marked bits filled with zeros, and with ones: the distances from c

@@ -1,4 +1,6 @@
 -- A message out of a word's columns, its highest part first: p, then the free values, then the top bits but the last.
+-- At each step the number so far, followed by the digits of the columns that are left, is the whole; the whole is a message of the code, so
+-- the number so far is below the code's limit.
 -- Assumes nothing.
 use mathlib.Core.Path.{_≡_, refl, sym, ap, ap₂, _∙_, subst}
 use mathlib.Core.Bool.{Bool, true, false, cond}
@@ -27,6 +29,7 @@ chosen-next : (n : ℕ) (b : Bool) (l : List Bool) (v : Symbol) (vs : List Symbo
 chosen-next n true l v vs = followed-next symbols n v (chosen l vs)
 chosen-next n false l v vs = refl
 
+-- all but the last of a list, from place i on
 but-last-from : (l : List Bool) (i : ℕ) → suc i < length l → drop i (butLast l) ≡ getD l i false ∷ drop (suc i) (butLast l)
 but-last-from [] i h = absurd (omega arith)
 but-last-from (b ∷ []) i h = absurd (omega arith)
@@ -44,7 +47,8 @@ module _ (π : Projection) (sys : Systematic π) (a : List ℕ) (room : size π 
   pub read-start : followed symbols (one (parity (columnOf (getD a 0 0)))) (chosen (π .free) (map value (held π a))) ≡ highPart π (held π a)
   read-start =
       let first : held π a ≡ columnOf (getD a 0 0) ∷ drop 1 (held π a) = held-from π a room 0 (sys .some) in
-      ap₂ (λ (p : Bool) (k : ℕ). one p * 4 ^ k + numberOf symbols (chosen (π .free) (map value cs))) (sym (ap firstParity first)) (sized π sys cs long .values)
+      ap₂ (λ (p : Bool) (k : ℕ). one p * 4 ^ k + numberOf symbols (chosen (π .free) (map value cs)))
+      (sym (ap firstParity first)) (sized π sys cs long .values)
 
   pub read-value : (i n : ℕ) → i < size π →
       followed symbols n (chosen (drop i (π .free)) (map value (drop i (held π a))))
@@ -60,12 +64,14 @@ module _ (π : Projection) (sys : Systematic π) (a : List ℕ) (room : size π 
   read-tops = ap (λ (k : ℕ). highPart π cs * 2 ^ k + numberOf bits (butLast (map top cs))) (sized π sys cs long .tops)
 
   pub read-top : (i n : ℕ) → suc i < size π →
-      followed bits n (drop i (butLast (map top (held π a)))) ≡ followed bits (n * 2 + one (top (columnOf (getD a i 0)))) (drop (suc i) (butLast (map top (held π a))))
+      followed bits n (drop i (butLast (map top (held π a))))
+      ≡ followed bits (n * 2 + one (top (columnOf (getD a i 0)))) (drop (suc i) (butLast (map top (held π a))))
   read-top i n h =
       ap (followed bits n)
       (but-last-from (map top cs) i (omega (arith, long, length-map cs top))
       ∙ ap (λ (b : Bool). b ∷ drop (suc i) (butLast (map top cs)))
-      (List·getD-map top cs i (columnOf 0) ∙ ap top (List·getD-map columnOf (take (size π) a) i 0 ∙ ap columnOf (getD-take (size π) a i 0 (omega arith)))))
+      (List·getD-map top cs i (columnOf 0)
+      ∙ ap top (List·getD-map columnOf (take (size π) a) i 0 ∙ ap columnOf (getD-take (size π) a i 0 (omega arith)))))
       ∙ followed-next bits n (top (columnOf (getD a i 0))) (drop (suc i) (butLast (map top cs)))
 
   pub message-bounded : messageNumber π (messageIn π (held π a)) < 2 ^ messageBits π
@@ -73,4 +79,5 @@ module _ (π : Projection) (sys : Systematic π) (a : List ℕ) (room : size π 
 
   pub high-bounded : highPart π (held π a) < 2 ^ messageBits π
   high-bounded =
-      lt-of-le-of-lt (subst (λ (x : ℕ). highPart π cs ≤ x) read-tops (followed-le bits bits-fit (highPart π cs) (butLast (map top cs)))) message-bounded
+      lt-of-le-of-lt (subst (λ (x : ℕ). highPart π cs ≤ x) read-tops (followed-le bits bits-fit (highPart π cs) (butLast (map top cs))))
+      message-bounded

@@ -24,7 +24,7 @@ use Rattle.codes.proofs.Digits.{symbols-fit, digits-again}
 use Rattle.codes.proofs.Distance.{Apart}
 use Rattle.codes.proofs.Sums.{digits-add}
 use Rattle.codes.proofs.Walks.{shaped-at}
-use Rattle.codes.proofs.Flips.{xor-last, syndrome-invert, topRow-invert, no-further, word-inverted, inverted-fits}
+use Rattle.codes.proofs.Flips.{xor-last, syndrome-invert, topRow-invert, nearer-by, word-inverted, inverted-fits}
 use Rattle.codes.proofs.Differences.{Tabled, none-close, more-than-one}
 use Rattle.codes.proofs.Words.{length-word, same-length}
 
@@ -79,4 +79,4 @@ pub inverted-close : (π : Projection) (x y j q : ℕ) → j < size π → q < 1
     distance (word π x) (word π y) ≤ distance (word π (inverted π x j q)) (word π y) + weight (columnOf q)
 inverted-close π x y j q hj hq =
     subst (λ (l : List Column). distance (word π x) (word π y) ≤ distance l (word π y) + weight (columnOf q)) (sym (word-inverted π x j q hj hq))
-    (no-further j (columnOf q) (word π x) (word π y) (same-length π x y) (omega (arith, length-word π x)))
+    (nearer-by j (columnOf q) (word π x) (word π y) (same-length π x y) (omega (arith, length-word π x)))
