@@ -1,4 +1,6 @@
--- The claims of specs/Claims.antt, each from the law that shows it for every code that is systematic and whose codewords are apart.
+-- The claims of specs/Claims.antt, each from the law that shows it for every code that is systematic and whose codewords are apart; the
+-- four codes are both. Of the starred words, writing is computed. Mending is not: it gives the codeword that is near by a computed test,
+-- or nothing, since a codeword's sum 2·wrong + marks is computed to be 8.
 -- Assumes nothing.
 use mathlib.Core.Path.{_≡_, refl, sym, ap, _∙_, subst}
 use mathlib.Core.Bool.{Bool, true, false, not}
@@ -12,16 +14,15 @@ use Rattle.symbols.specs.Column.{columnWith}
 use Rattle.codes.specs.declared.code.Code.{Code}
 use Rattle.codes.specs.declared.code.Code.the-variants.{O36, E36}
 use Rattle.codes.specs.Answer.{Answer, accepted, refused}
-use Rattle.codes.specs.Digits.{columns}
-use Rattle.codes.specs.Projection.{size, width}
+use Rattle.codes.specs.Projection.{width}
 use Rattle.codes.specs.Word.{word, isCodeword, distance}
 use Rattle.codes.specs.Message.{encode, decode}
 use Rattle.codes.specs.Mending.{wrong, ones, Mended, near, none, mend}
 use Rattle.codes.specs.Codes.{projection, reading, notACodeword, mendedAnswer, mending}
 use Rattle.codes.specs.Search.{Near}
-use Rattle.codes.specs.Claims.{IsCodeword, RoundTrip, OneMessage, StrictReading, SumOfCodewords, EightApart, IsNear, OneNear, EightIsFar, MendsNear, RefusesFar, Starred}
-use Rattle.codes.proofs.Digits.{length-digits}
-use Rattle.codes.proofs.Words.{parity-of, is-codeword, codeword-sum}
+use Rattle.codes.specs.Claims.{IsCodeword, RoundTrip, OneMessage, StrictReading, SumOfCodewords, EightApart}
+use Rattle.codes.specs.Claims.{IsNear, OneNear, EightIsFar, MendsNear, RefusesFar, Starred}
+use Rattle.codes.proofs.Words.{length-word, same-length, parity-of, is-codeword, codeword-sum}
 use Rattle.codes.proofs.Distance.{close-same}
 use Rattle.codes.proofs.Messages.{encode-below, encode-codeword, decode-encode, decode-below, encode-decode, word-injective}
 use Rattle.codes.proofs.Codes.{systematic, apart}
@@ -51,13 +52,16 @@ strict-reading c x = (accepts, λ vs e. only vs e (leb (2 ^ width (projection c)
     accepts : IsCodeword c x → reading (projection c) x ≡ accepted (decode (projection c) x ∷ [])
     accepts k =
         let π = projection c in
-        row-passed 3 (notACodeword π x ∷ []) (accepted (decode π x ∷ [])) (lt-leb (2 ^ width π) x (k .0)) ∙ row-passed 4 [] (accepted (decode π x ∷ [])) (ap not (k .1))
+        row-passed 3 (notACodeword π x ∷ []) (accepted (decode π x ∷ [])) (lt-leb (2 ^ width π) x (k .0))
+        ∙ row-passed 4 [] (accepted (decode π x ∷ [])) (ap not (k .1))
 
     only : (vs : List ℕ) → reading (projection c) x ≡ accepted vs → (wide is : Bool) →
         leb (2 ^ width (projection c)) x ≡ wide → isCodeword (projection c) (word (projection c) x) ≡ is → IsCodeword c x
     only vs e true is w f = absurd (not-both e (row-met 3 (notACodeword (projection c) x ∷ []) (accepted (decode (projection c) x ∷ [])) w))
     only vs e false false w f =
-        absurd (not-both e (row-passed 3 (notACodeword (projection c) x ∷ []) (accepted (decode (projection c) x ∷ [])) w ∙ row-met 4 [] (accepted (decode (projection c) x ∷ [])) (ap not f)))
+        let π = projection c in
+        absurd (not-both e
+        (row-passed 3 (notACodeword π x ∷ []) (accepted (decode π x ∷ [])) w ∙ row-met 4 [] (accepted (decode π x ∷ [])) (ap not f)))
     only vs e false true w f = (leb-false (2 ^ width (projection c)) x w, f)
 
 pub sum-of-codewords : SumOfCodewords
@@ -65,7 +69,7 @@ sum-of-codewords c x y k l =
     let π = projection c in
     let a = parity-of π (word π x) (k .1) in
     let b = parity-of π (word π y) (l .1) in
-    is-codeword π (a .0 ⊻ b .0) _ (codeword-sum π (a .0) (b .0) (word π x) (word π y) (length-digits columns (size π) x ∙ sym (length-digits columns (size π) y)) (a .1) (b .1))
+    is-codeword π (a .0 ⊻ b .0) _ (codeword-sum π (a .0) (b .0) (word π x) (word π y) (same-length π x y) (a .1) (b .1))
 
 pub eight-apart : EightApart
 eight-apart c x y k l differ = go (leb 8 (distance (word (projection c) x) (word (projection c) y))) refl
@@ -77,7 +81,7 @@ eight-apart c x y k l differ = go (leb 8 (distance (word (projection c) x) (word
         let a = parity-of π (word π x) (k .1) in
         let b = parity-of π (word π y) (l .1) in
         absurd (differ (word-injective π x y (k .0) (l .0)
-        (close-same π (apart c) (a .0) (b .0) (word π x) (word π y) (length-digits columns (size π) x) (length-digits columns (size π) y) (a .1) (b .1)
+        (close-same π (apart c) (a .0) (b .0) (word π x) (word π y) (length-word π x) (length-word π y) (a .1) (b .1)
         (omega (arith, leb-false 8 (distance (word π x) (word π y)) e)))))
 
 -- near as a claim says it, and as mending's laws do
@@ -108,9 +112,11 @@ mends-near c w m hw hm = (gives, λ vs e. only vs (mend (projection c) w m) refl
         let given = mended π w m x n k l e in
         let codeword = given .1 in
         let message : decode π x ≡ n = ap (decode π) codeword ∙ decode-encode π (systematic c) n (given .0) in
-        let values : x ∷ n ∷ k ∷ l ∷ [] ≡ vs = cc in (
+        let values : x ∷ n ∷ k ∷ l ∷ [] ≡ vs = cc in
+        let fits = subst (λ (z : ℕ). z < 2 ^ width π) (sym codeword) (encode-below π (systematic c) n) in
+        let is = ap (λ (z : ℕ). isCodeword π (word π z)) codeword ∙ encode-codeword π (systematic c) n in (
           x,
-          ((subst (λ (z : ℕ). z < 2 ^ width π) (sym codeword) (encode-below π (systematic c) n), ap (λ (z : ℕ). isCodeword π (word π z)) codeword ∙ encode-codeword π (systematic c) n), given .4),
+          ((fits, is), given .4),
           sym values ∙ cc (message, given .2, given .3),
         )
 
@@ -130,6 +136,7 @@ lost-sample : (c : Code) (w m x : ℕ) → w < 2 ^ width (projection c) → m < 
     2 * wrong (projection c) w m x + ones (projection c) m ≡ 8 → mending (projection c) w m ≡ refused 5
 lost-sample c w m x hw hm k e = refuses-far c w m hw hm .0 (eight-is-far c w m x k e)
 
+-- the proofs of a list of samples
 infixr 10 _&_
 _&_ : {A B : Type 0} → A → B → A × B
 a & b = (a, b)

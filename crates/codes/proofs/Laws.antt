@@ -1,5 +1,6 @@
 -- What the layers above may cite: the limits of each code, and mending by its messages.
--- A word that is a message's codeword with positions f inverted has that codeword's wrong positions where f is not marked.
+-- Every codeword is that of one message, so what holds of near codewords is said here of messages. A message's codeword with positions f
+-- inverted is a word in which that codeword is wrong just where f is not marked.
 -- Assumes nothing.
 use mathlib.Core.Path.{_≡_, refl, sym, ap, _∙_, subst}
 use Prim.Native.Nat.{ℕ, _+_, _*_, _^_, _≤_, _<_}
@@ -26,7 +27,7 @@ width-pos E36 = lit< tt
 width-pos O40 = lit< tt
 width-pos E40 = lit< tt
 
--- step·4096 + reading is below the message limit exactly where the step is below its limit
+-- the step limit times 4096 is the message limit, so step·4096 + reading is a message exactly where the step is below its limit
 pub steps : (c : Code) → stepLimit (projection c) * 4096 ≡ 2 ^ messageBits (projection c)
 steps O36 = refl
 steps E36 = refl
@@ -45,14 +46,16 @@ near-of c w m n h =
     record { fits = encode-below π (systematic c) n; codeword = encode-codeword π (systematic c) n; near = mends.sum-near π w m (encode π n) h }
 
 -- a near codeword is what mending gives: there is at most one
-pub near-mend : (c : Code) (w m n : ℕ) → n < 2 ^ messageBits (projection c) → 2 * wrong (projection c) w m (encode (projection c) n) + ones (projection c) m ≤ 7 →
+pub near-mend : (c : Code) (w m n : ℕ) → n < 2 ^ messageBits (projection c) →
+    2 * wrong (projection c) w m (encode (projection c) n) + ones (projection c) m ≤ 7 →
     mend (projection c) w m ≡ near (encode (projection c) n) n (wrong (projection c) w m (encode (projection c) n)) (ones (projection c) m)
 near-mend c w m n hn h =
     let π = projection c in
     mends.mend-near π w m (systematic c) (apart c) (encode π n) (near-of c w m n h)
     ∙ ap (λ (i : ℕ). near (encode π n) i (wrong π w m (encode π n)) (ones π m)) (decode-encode π (systematic c) n hn)
 
--- a codeword with positions f inverted, under marks m: f and m are words whose ones are the positions
+-- a codeword with positions f inverted, under marks m: f and m are words whose ones are the positions. At a sum of at most 7 mending gives
+-- it back; at 8 it gives nothing
 pub mend-within : (c : Code) (n f m : ℕ) → n < 2 ^ messageBits (projection c) → f < 2 ^ width (projection c) → m < 2 ^ width (projection c) →
     2 * outside (word (projection c) f) (word (projection c) m) + ones (projection c) m ≤ 7 →
     mend (projection c) (bitXor (encode (projection c) n) f) m

@@ -22,7 +22,8 @@ use Rattle.codes.specs.Projection.{Projection, wanted, size}
 use Rattle.codes.specs.Word.{word, syndromeOf, allParity, topRow, isCodewordOf, isCodeword, distance}
 use Rattle.codes.specs.Walk.{held, odds}
 use Rattle.codes.specs.Search.{lacks, inverted, Known, Ahead, Begun, Seeking, Within, nothing, Sought}
-use Rattle.codes.proofs.Words.{Codeword, codeword-parts, codeword-of, is-codeword, parity-of, parity-first, parity-rest, count-cons, length-word, same-length}
+use Rattle.codes.proofs.Words.{length-word, same-length, parity-first, parity-rest, count-cons}
+use Rattle.codes.proofs.Words.{Codeword, codeword-parts, codeword-of, is-codeword, parity-of}
 use Rattle.codes.proofs.Flips.{blank, invert, rowColumn, lacks-invert, take-invert, nearer, word-inverted}
 use Rattle.codes.proofs.Differences.{lacks-distance, lacks-both}
 use Rattle.codes.proofs.Searches.{Searchable, known-inverted, inverted-close}

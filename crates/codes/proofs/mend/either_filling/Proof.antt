@@ -21,7 +21,8 @@ returns-2 : tie.Need-returns-2
 returns-2 c =
     let a = c .before .before .before .args in
     let zeros = c .before .before .fitting .ensures .none (c .before .if1 .left) in
-    sought-none (neither-filling (projection (a .code)) (a .word) (a .marks) zeros (one-filling (projection (a .code)) (a .word) (a .marks) (c .if2 .taken) zeros))
+    let π = projection (a .code) in
+    sought-none (neither-filling π (a .word) (a .marks) zeros (one-filling π (a .word) (a .marks) (c .if2 .taken) zeros))
 
 fitting-requires-2 : tie.Need-fitting-requires-2
 fitting-requires-2 c κs =

@@ -28,7 +28,8 @@ use Rattle.codes.proofs.message.message_in.Tie as tie
 abbrev Inv-loop : tie.InvT-loop
 Inv-loop code columns number₀ i₀ number i =
     (i ≤ topBits (projection code))
-    × (followed bits number (drop i (butLast (map top (held (projection code) columns)))) ≡ messageNumber (projection code) (messageIn (projection code) (held (projection code) columns)))
+    × (followed bits number (drop i (butLast (map top (held (projection code) columns))))
+    ≡ messageNumber (projection code) (messageIn (projection code) (held (projection code) columns)))
 
 abbrev μ-loop : tie.MeasureT-loop
 μ-loop code columns number₀ i₀ number i = topBits (projection code) - i
@@ -92,7 +93,8 @@ loop-again c =
     let l = c .before .before .before .before .loop in
     let below : suc (l .i) < size π = omega (arith, c .before .before .before .columns .ensures) in (
       omega arith,
-      ap₂ (λ (b j : ℕ). followed bits (l .number * 2 + b) (drop j (butLast (map top (held π a))))) (c .one .ensures ∙ ap one (c .before .top .ensures)) (add-one (l .i))
+      ap₂ (λ (b j : ℕ). followed bits (l .number * 2 + b) (drop j (butLast (map top (held π a)))))
+          (c .one .ensures ∙ ap one (c .before .top .ensures)) (add-one (l .i))
           ∙ sym (read-top π (systematic code) a (omega (arith, size-le code)) (l .i) (l .number) below) ∙ l .inv .1,
     )
 

@@ -26,7 +26,8 @@ seek-requires c κs =
     let top = s .args .walk .top in
     let wanted = c .before .before .top-parity in (
       s .pre .0,
-      seek-start (s .pre .1) (omega arith) (c .columns .result) (c .columns .ensures) _ (xor-code top (wanted .result) ∙ ap (λ (b : Bool). top ⊻ b) (wanted .ensures)),
+      seek-start (s .pre .1) (omega arith) (c .columns .result) (c .columns .ensures) _
+          (xor-code top (wanted .result) ∙ ap (λ (b : Bool). top ⊻ b) (wanted .ensures)),
     )
 
 returns-2 : tie.Need-returns-2

@@ -40,7 +40,8 @@ sub-left c =
     let s = c .before .before .before .before .before .before in
     let unpack = c .before .before .before .before .before .unpack in
     let walk = c .before .before .before .before .walk-columns in
-    omega (arith, odd-lacks (projection (s .args .code)) (unpack .result) (s .args .x) (walk .result .odd) (unpack .ensures) (walk .ensures .odd) .1, c .columns2 .ensures)
+    let lacking = odd-lacks (projection (s .args .code)) (unpack .result) (s .args .x) (walk .result .odd) (unpack .ensures) (walk .ensures .odd) in
+    omega (arith, lacking .1, c .columns2 .ensures)
 
 of-parity-requires-2 : tie.Need-of-parity-requires-2
 of-parity-requires-2 c κs =

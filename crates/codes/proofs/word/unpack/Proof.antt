@@ -19,7 +19,8 @@ use Rattle.codes.proofs.word.unpack.Tie as tie
 
 abbrev Inv-loop : tie.InvT-loop
 Inv-loop packed stored₀ rest₀ i₀ stored rest i =
-    (i ≤ i₀) × (i₀ ≤ 10) × (length stored ≡ 10) × (rest ≡ packed / 16 ^ (i₀ - i)) × (map columnOf (take (i₀ - i) (drop i stored)) ≡ digits columns (i₀ - i) packed)
+    (i ≤ i₀) × (i₀ ≤ 10) × (length stored ≡ 10) × (rest ≡ packed / 16 ^ (i₀ - i))
+    × (map columnOf (take (i₀ - i) (drop i stored)) ≡ digits columns (i₀ - i) packed)
 
 abbrev μ-loop : tie.MeasureT-loop
 μ-loop packed stored₀ rest₀ i₀ stored rest i = i
@@ -71,7 +72,8 @@ returns : tie.Need-returns Inv-loop μ-loop
 returns c =
     let l = c .before .loop in
     let n = c .before .before .before .args .packed in
-    let whole : c .before .before .columns .result - l .i ≡ size (projection (c .before .before .before .args .code)) = omega (arith, c .before .before .columns .ensures) in
+    let m = size (projection (c .before .before .before .args .code)) in
+    let whole : c .before .before .columns .result - l .i ≡ m = omega (arith, c .before .before .columns .ensures) in
     let first : l .i ≡ 0 = omega arith in
     ap₂ (λ (j k : ℕ). map columnOf (take j (drop k (l .columns)))) (sym whole) (sym first) ∙ l .inv .4 ∙ ap (λ (k : ℕ). digits columns k n) whole
 
