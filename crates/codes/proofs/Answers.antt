@@ -1,4 +1,6 @@
--- Answers by the tests that a call makes: a code's number, a limit, and the rows of a table of refusals.
+-- Answers by the tests that a call makes: the rows of its refusals, and the code that a number names.
+-- A row that is met is the answer, and one that isn't leaves the answer to the rows behind it. A call under a code's number has one row in
+-- front of its own: whether there is such a code.
 -- Assumes nothing.
 use mathlib.Core.Path.{_≡_, refl, ap, _∙_}
 use mathlib.Core.Bool.{Bool, true, false, not, cond}
@@ -20,7 +22,7 @@ row-met k rs a e = ap (λ (x : Bool). cond x (refused k) (unless rs a)) e
 pub row-passed : (k : ℕ) {b : Bool} (rs : List Row) (a : Answer) → b ≡ false → unless (record { number = k; met = b } ∷ rs) a ≡ unless rs a
 row-passed k rs a e = ap (λ (x : Bool). cond x (refused k) (unless rs a)) e
 
--- a call under a code that is found, and under none
+-- a call under a number that names no code, and under one that does
 pub under-unknown : (n : ℕ) (call : Projection → Answer) (r : Refusal) → codeFound n ≡ CodeFound.Refused r → under n call ≡ refused 1
 under-unknown n call r e = go (isCode n) refl
   where

@@ -1,4 +1,4 @@
--- Words and tables in arrays: a column stored below those that are stored already, the table of scaled columns, and a table of a function.
+-- Words and tables in arrays: a column stored in front of those that are stored already, the table of scaled columns, and a table of a function.
 -- The columns of a number are its digits in base 16, stored from the last to the first, so one more is the next quotient's remainder. The
 -- scaled columns of the matrix stand four by four, in the order of the columns and of the symbols.
 -- Assumes nothing.
@@ -17,12 +17,12 @@ use Rattle.codes.specs.Vector.{scale}
 use Rattle.codes.specs.Projection.{Projection, size}
 use Rattle.codes.specs.Walk.{scaled, scaledColumns}
 
--- an array from the place on where an element is stored
+-- an array, from the place where an element was stored
 drop-set : (l : List ℕ) (j v : ℕ) → j < length l → drop j (set l j v) ≡ v ∷ drop (suc j) l
 drop-set l j v h =
     drop-cons (set l j v) j 0 (lt-length-set l j v h) ∙ ap₂ _∷_ (getD-set-same l j v 0 h) (drop-set-lt (suc j) l j v (omega arith))
 
--- the columns of a number, stored from the last to the first
+-- the columns of a number, stored from the last to the first: one column more, and what is then left of the number
 pub unpack-step : (l : List ℕ) (j k n : ℕ) → j < length l → map columnOf (take k (drop (suc j) l)) ≡ digits columns k n →
     map columnOf (take (suc k) (drop j (set l j (n / 16 ^ k % 16)))) ≡ digits columns (suc k) n
 unpack-step l j k n h e =

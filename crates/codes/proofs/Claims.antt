@@ -22,7 +22,7 @@ use Rattle.codes.specs.Codes.{projection, reading, notACodeword, mendedA
 use Rattle.codes.specs.Search.{Near}
 use Rattle.codes.specs.Claims.{IsCodeword, RoundTrip, OneMessage, StrictReading, SumOfCodewords, EightApart}
 use Rattle.codes.specs.Claims.{IsNear, OneNear, EightIsFar, MendsNear, RefusesFar, Starred}
-use Rattle.codes.proofs.Words.{length-word, same-length, parity-of, is-codeword, codeword-sum}
+use Rattle.codes.proofs.Words.{length-word, same-length, codeword-parity, is-codeword, codeword-sum}
 use Rattle.codes.proofs.Distance.{close-same}
 use Rattle.codes.proofs.Messages.{encode-below, encode-codeword, decode-encode, decode-below, encode-decode, word-injective}
 use Rattle.codes.proofs.Codes.{systematic, apart}
@@ -67,8 +67,8 @@ strict-reading c x = (accepts, λ vs e. only vs e (leb (2 ^ width (projection c)
 pub sum-of-codewords : SumOfCodewords
 sum-of-codewords c x y k l =
     let π = projection c in
-    let a = parity-of π (word π x) (k .1) in
-    let b = parity-of π (word π y) (l .1) in
+    let a = codeword-parity π (word π x) (k .1) in
+    let b = codeword-parity π (word π y) (l .1) in
     is-codeword π (a .0 ⊻ b .0) _ (codeword-sum π (a .0) (b .0) (word π x) (word π y) (same-length π x y) (a .1) (b .1))
 
 pub eight-apart : EightApart
@@ -78,8 +78,8 @@ eight-apart c x y k l differ = go (leb 8 (distance (word (projection c) x) (word
     go true e = leb-true 8 (distance (word (projection c) x) (word (projection c) y)) e
     go false e =
         let π = projection c in
-        let a = parity-of π (word π x) (k .1) in
-        let b = parity-of π (word π y) (l .1) in
+        let a = codeword-parity π (word π x) (k .1) in
+        let b = codeword-parity π (word π y) (l .1) in
         absurd (differ (word-injective π x y (k .0) (l .0)
         (close-same π (apart c) (a .0) (b .0) (word π x) (word π y) (length-word π x) (length-word π y) (a .1) (b .1)
         (omega (arith, leb-false 8 (distance (word π x) (word π y)) e)))))

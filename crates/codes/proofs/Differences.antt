@@ -1,8 +1,8 @@
 -- What a word's parities and syndrome say of its difference from a codeword.
 -- A column of another parity than the codeword's differs in a position. The difference's syndrome is the word's, so where no choice of at
 -- most k live values has that syndrome, the difference has more than k live columns: each has a one, and two where all columns are even.
--- For k = 0 that is so of a syndrome other than zero, for k = 1 of one that has no entry in the table; an entry names a column and a value
--- that have the syndrome. These are computed tests of all syndromes.
+-- Of a syndrome other than zero that is so for k = 0, and for k = 1 if it has no entry in the table; an entry names a column and a value
+-- that make the syndrome. These are computed tests of all syndromes.
 -- Assumes nothing.
 use mathlib.Core.Path.{_≡_, refl, sym, ap, ap₂, _∙_, subst}
 use mathlib.Core.Bool.{Bool, true, false, not, _&&_, _||_}
@@ -20,6 +20,7 @@ use Rattle.codes.specs.Vector.{addV, scale, isZeroV}
 use Rattle.codes.specs.Projection.{Projection, size}
 use Rattle.codes.specs.Word.{_⊞_, syndromeOf, allParity, weightOf, distance}
 use Rattle.codes.specs.Search.{entry, tableFrom, entryTable, lacks}
+use Rattle.codes.proofs.Arrays.{tabulated, table-at}
 use Rattle.codes.proofs.Vectors.{addV-assoc, add-zero-vector, addV-self}
 use Rattle.codes.proofs.Words.{length-sum, syndrome-sum, parity-first, parity-rest, parity-cons, count-cons}
 use Rattle.codes.proofs.Distance.{isLive, live, onlyZeros, only-zeros, even-word-weight, test-true}
@@ -102,7 +103,7 @@ makes π e = numberOf symbols (scale (symbolOf (e % 4)) (getD (π .matrix) (e / 
 abbrev names : Projection → ℕ → ℕ → Bool
 names π s e = leb 4 e && (ltb (e / 4 - 1) (size π) && (not (isZero (symbolOf (e % 4))) && eqb (makes π e) s))
 
--- the tests of a code's table: no syndrome but zero is made by no live value, none but zero that has no entry is made by one, and an entry
+-- the tests of a code's table: a syndrome other than zero takes a live value to make it, and more than one if it has no entry; an entry
 -- names what makes the syndrome
 pub record Tabled (π : Projection) : Type 0 where
   pub nonzero : T (below (4 ^ π .rows) (λ s. eqb s 0 || onlyZeros (π .matrix) 0 (digits symbols (π .rows) s) false))
@@ -121,7 +122,7 @@ tested : (n : ℕ) (f g : ℕ → Bool) → T (below n (λ s. f s || g s)) → (
 tested n f g t s h e = subst (λ (b : Bool). T (b || g s)) e (at-below n (λ s. f s || g s) t s h)
 
 module _ (π : Projection) (tabled : Tabled π) (s : ℕ) (small : s < 4 ^ π .rows) where
-  -- no choice of no live value, and of one, has the syndrome
+  -- no choice without a live value, and none with at most one, has the syndrome
   pub more-than-none : (s ≡ 0 → ⊥) → T (onlyZeros (π .matrix) 0 (digits symbols (π .rows) s) false)
   more-than-none n =
       tested (4 ^ π .rows) (λ s. eqb s 0) (λ s. onlyZeros (π .matrix) 0 (digits symbols (π .rows) s) false) (tabled .nonzero) s small
@@ -148,14 +149,11 @@ module _ (π : Projection) (tabled : Tabled π) (s : ℕ) (small : s < 4 ^ π .r
         made = eqb→eq (makes π e) s (and-right c d v);
       }
 
--- a table's entries, as the array has them
-getD-table : (n k : ℕ) (f : ℕ → ℕ) (i : ℕ) → i < n → getD (tableFrom n k f) i 0 ≡ f (k + i)
-getD-table zero k f i h = absurd (omega arith)
-getD-table (suc n) k f zero h = ap f (omega arith)
-getD-table (suc n) k f (suc i) h = getD-table n (suc k) f i (omega arith) ∙ ap f (omega arith)
+-- the table of entries holds them in order
+table-is : (n k : ℕ) (f : ℕ → ℕ) → tableFrom n k f ≡ tabulated n k f
+table-is zero k f = refl
+table-is (suc n) k f = ap (λ (l : List ℕ). f k ∷ l) (table-is n (suc k) f)
 
 pub entry-at : (π : Projection) (l : List ℕ) (s : ℕ) → l ≡ entryTable π → s < 256 → getD l s 0 ≡ entry π s
 unfolding entryTable
-entry-at π l s e h =
-    let from : 0 + s ≡ s = omega arith in
-    ap (λ (l : List ℕ). getD l s 0) e ∙ getD-table 256 0 (entry π) s h ∙ ap (entry π) from
+entry-at π l s e h = ap (λ (l : List ℕ). getD l s 0) (e ∙ table-is 256 0 (entry π)) ∙ table-at 256 (entry π) 0 s h

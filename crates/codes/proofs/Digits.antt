@@ -42,7 +42,7 @@ bits-fit =
     bit-number : (n : ℕ) → one (bit 0 n) ≡ n % 2
     bit-number n = law-below 2 number-discrete (λ k. one (eqb k 1)) (λ k. k) tt (n / 1 % 2) (mod-lt (n / 1) (lit< tt)) ∙ omega arith
 
--- a type of digits fits its base if digits and the numbers below the base are each other's, and a number's lowest digit is its remainder's
+-- it is enough that the digits and the numbers below the base are each other's, and that a number has its remainder's lowest digit
 below-base : {A : Type 0} (d : Digit A) → 0 < d .base → ((x : A) → d .number x < d .base) → ((x : A) → d .lowest (d .number x) ≡ x) →
     ((n : ℕ) → n < d .base → d .number (d .lowest n) ≡ n) → ((n : ℕ) → d .lowest (n % d .base) ≡ d .lowest n) → Fit d
 below-base d pos small back there modulo =

@@ -1,7 +1,7 @@
 -- A message's columns, written from the first to the last, and how they become its codeword's.
--- In front of the columns that are left, the value of the next one is a digit of the message or of the syndrome, by the number of columns
--- of its kind behind it, and its top bit is the next of the message's; the last top bit is what the top row's parity still wants.
--- Where the columns that are not free have the value 0, the word's syndrome is what they must have to make it a codeword's.
+-- The value of the next column is a digit of the message or of the syndrome, by the number of columns of its kind behind it, and its top
+-- bit is the next of the message's; the last top bit is what the top row's parity still wants.
+-- Where the columns that are not free have the value 0, the word's syndrome is what they must have for it to be a codeword.
 -- Assumes nothing.
 use mathlib.Core.Path.{_≡_, refl, sym, ap, ap₂, _∙_, subst}
 use mathlib.Core.Bool.{Bool, true, false, not}
@@ -66,7 +66,7 @@ parity-bit π n =
 bit-at : (k n : ℕ) → bit 0 (n / 2 ^ k) ≡ bit k n
 bit-at k n = ap (λ (x : ℕ). eqb (x % 2) 1) (div-one (n / 2 ^ k))
 
--- a column more is stored
+-- one column more is stored
 pub stored-more : (a : List ℕ) (i v : ℕ) → i < length a →
     map columnOf (take (suc i) (set a i v)) ≡ map columnOf (take i a) ++ (columnOf v ∷ [])
 stored-more a i v h = ap (map columnOf) (take-suc-set a i v h) ∙ map-append columnOf (take i a) (v ∷ [])

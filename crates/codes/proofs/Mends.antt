@@ -94,7 +94,7 @@ module _ (π : Projection) (w m : ℕ) where
           )
       go (inr s) = let z : _≡_ {A = ℕ} 0 1 = cc (s .gives) in absurd (omega arith)
 
-  -- within three positions of a filling: a codeword that is near, and none
+  -- within three positions of a filling lies a codeword whose sum is at most 7, or no codeword
   pub fitting-near : (f x : ℕ) → Within π (isCodeword π) 3 f x → sum π w m x ≤ 7 → NearWithin π w m 3 f x
   fitting-near f x a h = record { is = record { fits = a .fits; codeword = a .passes; near = sum-near π w m x h }; close = a .close }
 
@@ -121,7 +121,7 @@ module _ (π : Projection) (w m : ℕ) where
         let same = one-codeword π far w m x y hx (b .fits) kx (b .codeword) (omega arith) in
         omega (arith, ap (sum π w m) same)
 
-    -- mending gives the near codeword, and nothing where none is near; then no codeword is
+    -- mending gives the near codeword; it gives nothing where none is near, and only there
     pub mend-near : (x : ℕ) → Near π w m x → mend π w m ≡ near x (decode π x) (wrong π w m x) (ones π m)
     mend-near x c = go (searched (2 ^ messageBits π) 0)
       where
@@ -156,7 +156,7 @@ module _ (π : Projection) (w m : ℕ) where
             ∙ ap₂ (λ (a b : ℕ). distance (word π a) (word π x) + distance (word π b) (word π x)) (xor-zero-r (bitOr f 0) ∙ or-zero-r f) (or-zero-r f)
             ∙ omega arith
 
-    -- what was found within three positions of a filling is not near: nothing near is
+    -- where the codeword within three positions of a filling is not near, no near one is within three
     pub fitting-far : (f x : ℕ) → Within π (isCodeword π) 3 f x → 7 < sum π w m x → (y : ℕ) → NearWithin π w m 3 f y → ⊥
     fitting-far f x a h y b =
         let same = one-within f x y a (within-of f y b) in
@@ -184,7 +184,7 @@ module _ (π : Projection) (w m : ℕ) where
   pub many-marks : 7 < ones π m → (y : ℕ) → Near π w m y → ⊥
   many-marks h y c = omega (arith, near-sum π w m y (c .near))
 
--- a codeword is wrong in the word that is itself with positions f inverted just at those that are not marked
+-- in the word that is a codeword with positions f inverted, wrong is the number of those that are not marked
 column-twice : (c d : Column) → c ⊕ (c ⊕ d) ≡ d
 column-twice c d = law (columns ⊗ columns) (Column-discrete Bool-discrete) (λ (c, d). c ⊕ (c ⊕ d)) (λ (c, d). d) tt (c, d)
 

@@ -22,7 +22,7 @@ use Rattle.codes.specs.Message.{Message, messageOf, messageNumber, messa
 use Rattle.codes.proofs.Digits.{bits-fit, symbols-fit, columns-fit, length-digits, place-pos, number-lt}
 use Rattle.codes.proofs.Digits.{number-digits, digits-remainder, digits-again, number-again}
 use Rattle.codes.proofs.Sums.{pow-mul}
-use Rattle.codes.proofs.Words.{Codeword, parity-of, is-codeword, length-word}
+use Rattle.codes.proofs.Words.{Codeword, codeword-parity, is-codeword, length-word}
 use Rattle.codes.proofs.Placing.{Systematic}
 use Rattle.codes.proofs.Encoding.{Sized, length-codeword, message-codeword, message-of-codeword, sized, codeword-of-message}
 
@@ -142,7 +142,7 @@ module _ (π : Projection) (sys : Systematic π) where
     cs = word π x
 
     parts : (p : Bool) × Codeword π p (word π x)
-    parts = parity-of π cs c
+    parts = codeword-parity π cs c
 
     fit : Sized π (messageIn π (word π x))
     fit = sized π sys cs (length-word π x)

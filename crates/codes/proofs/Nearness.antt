@@ -1,9 +1,9 @@
--- Near codewords. Two codewords differ in at most wrong + wrong' + marks positions: an unmarked one is wrong in one of the two.
+-- Near codewords. Two codewords differ in at most wrong + wrong' + marks positions: at an unmarked one, one of the two is wrong.
 -- So where their sums 2·wrong + marks add up to at most 15 they differ in at most seven positions and are one: at most one codeword is
 -- near, and a codeword whose sum is 8 keeps every other from being near.
 -- The marked bits filled with zeros, and with ones, give two words whose distances from a codeword add up to its sum: a position that is
 -- wrong counts in both, a marked one in just one of them. So one of the two is within three positions of a near codeword.
--- Wrong and marks are counts of the ones of a number: those of its columns, four bits each.
+-- The ones of a number are those of its columns, so that wrong and marks can be counted on numbers.
 -- Assumes nothing.
 use mathlib.Core.Path.{_≡_, refl, sym, ap, ap₂, _∙_, subst}
 use mathlib.Core.Bool.{Bool, not, _&&_, _||_, true}
@@ -24,7 +24,7 @@ use Rattle.codes.specs.Projection.{Projection, width}
 use Rattle.codes.specs.Word.{word, _⊞_, isCodeword, weightOf, distance}
 use Rattle.codes.specs.Mending.{outsideIn, outside, wrong, ones}
 use Rattle.codes.proofs.Digits.{columns-fit, number-lt}
-use Rattle.codes.proofs.Words.{length-word, same-length, parity-of}
+use Rattle.codes.proofs.Words.{length-word, same-length, codeword-parity}
 use Rattle.codes.proofs.Distance.{Apart, close-same}
 use Rattle.codes.proofs.Messages.{number-word, word-injective}
 use Rattle.codes.proofs.Sums.{pow-mul, zip, orIn, word-xor, word-or}
@@ -57,8 +57,8 @@ sum π w m x = 2 * wrong π w m x + ones π m
 pub one-codeword : (π : Projection) → Apart π → (w m x y : ℕ) → x < 2 ^ width π → y < 2 ^ width π →
     isCodeword π (word π x) ≡ true → isCodeword π (word π y) ≡ true → sum π w m x + sum π w m y ≤ 15 → x ≡ y
 one-codeword π far w m x y hx hy kx ky h =
-    let p = parity-of π (word π x) kx in
-    let q = parity-of π (word π y) ky in
+    let p = codeword-parity π (word π x) kx in
+    let q = codeword-parity π (word π y) ky in
     let near = between (word π x) (word π y) (word π w) (word π m) (same-length π x w) (same-length π y w) (same-length π m w) in
     word-injective π x y hx hy
     (close-same π far (p .0) (q .0) (word π x) (word π y) (length-word π x) (length-word π y) (p .1) (q .1) (omega arith))

@@ -91,8 +91,8 @@ same-vector (x ∷ xs) (y ∷ ys) t =
     ap₂ _∷_ (passed (Symbol-discrete x y) (and-left (passes (Symbol-discrete x y)) (sameV xs ys) t))
     (same-vector xs ys (and-right (passes (Symbol-discrete x y)) (sameV xs ys) t))
 
--- what a code has to satisfy for its messages to be its codewords': at least one column, each of a symbol for each row, a mark for each
--- whether it is free, and as many others as there are rows, each with a one in a row of its own, in row order
+-- what a code has to satisfy for each message to have one codeword and each codeword one message: at least one column, each with a symbol
+-- for each row, a mark for each whether it is free, and as many others as there are rows, each with a one in a row of its own, in row order
 pub record Systematic (π : Projection) : Type 0 where
   pub shape : shaped (π .rows) (π .matrix) ≡ true
   pub marks : length (π .free) ≡ size π

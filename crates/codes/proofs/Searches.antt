@@ -1,7 +1,7 @@
 -- The search for a codeword: what it asks of a code, its answers, and a word with bits of one column inverted.
 -- Of a word are known its packed syndrome and whether its top row is off; inverting bits of a column adds that column's scaled column to
--- the one and the bit of the top row to the other. A syndrome other than zero that is no multiple of a column is hopeless: the difference
--- from a codeword has more than one live column, and each has a one.
+-- the one and the bit of the top row to the other. Where at most one position is left to invert, a syndrome other than zero that is no
+-- multiple of a column is hopeless: the difference from a codeword has more than one live column, and each has a one.
 -- Assumes nothing.
 use mathlib.Core.Path.{_≡_, sym, ap, ap₂, _∙_, subst}
 use mathlib.Core.Bool.{Bool, true}
@@ -35,7 +35,7 @@ pub record Searchable (π : Projection) : Type 0 where
   pub tabled : Tabled π
   pub narrow : width π ≤ 40
 
--- an answer that is found, and one that says that there is none
+-- an answer that is found, one that says that there is none, and one that is a word of the code's width
 pub sought-one : {P : ℕ → Type 0} (r : ℕ) → P r → r < nothing → Sought P r
 sought-one r p h = record { found = λ l. p; none = λ l. absurd (omega arith) }
 
@@ -45,7 +45,7 @@ sought-none n = record { found = λ l. absurd (omega arith); none = λ l. n }
 pub sought-word : {π : Projection} {test : List Column → Bool} {k x y : ℕ} → Searchable π → Within π test k x y → Sought (Within π test k x) y
 sought-word code w = sought-one _ w (lt-of-lt-of-le (w .fits) (pow-mono (code .narrow)))
 
--- no codeword is close, by the syndrome alone
+-- where the syndrome is not zero and has no entry, no codeword is within one position
 pub hopeless : (π : Projection) → Searchable π → (k s : ℕ) → s < 4 ^ π .rows → k ≤ 1 → (s ≡ 0 → ⊥) → entry π s ≡ 0 → Hopeless π k s
 hopeless π code k s h l n e x y ex zy d =
     none-close π 1 (digits symbols (π .rows) s) (more-than-one π (code .tabled) s h n e) (word π x) (word π y) ex zy
@@ -74,9 +74,9 @@ known-inverted {π} {p} {s} {off} {x} code known j q g hj hq eg =
           ∙ sym (ap (λ (b : Bool). b ⊻ wanted (π .rule) p) (ap topRow ew ∙ topRow-invert j (columnOf q) (word π x) inside));
     }
 
--- it is no further from another word than that and the inverted bits
-pub inverted-close : (π : Projection) (x y j q : ℕ) → j < size π → q < 16 →
+-- a word gets nearer to another by no more than the bits that are inverted
+pub inverted-nearer-by : (π : Projection) (x y j q : ℕ) → j < size π → q < 16 →
     distance (word π x) (word π y) ≤ distance (word π (inverted π x j q)) (word π y) + weight (columnOf q)
-inverted-close π x y j q hj hq =
+inverted-nearer-by π x y j q hj hq =
     subst (λ (l : List Column). distance (word π x) (word π y) ≤ distance l (word π y) + weight (columnOf q)) (sym (word-inverted π x j q hj hq))
     (nearer-by j (columnOf q) (word π x) (word π y) (same-length π x y) (omega (arith, length-word π x)))

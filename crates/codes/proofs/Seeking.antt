@@ -1,6 +1,6 @@
 -- Seeking: the columns that lack the parity p, from the last to the first, and both parities in turn.
 -- A column that lacks the parity differs from the codeword's in a row, so with one of its four rows inverted the word is a position nearer,
--- and the column lacks nothing. Where more columns lack the parity than there are positions to invert, no codeword is that close.
+-- and the column has the parity. Where more than three columns lack the parity, no codeword is within three positions.
 -- A codeword is even or odd, so what is within three positions is found by a search for each.
 -- Assumes nothing.
 use mathlib.Core.Path.{_≡_, refl, sym, ap, _∙_, subst, subst₂}
@@ -23,12 +23,12 @@ use Rattle.codes.specs.Word.{word, syndromeOf, allParity, topRow, isCode
 use Rattle.codes.specs.Walk.{held, odds}
 use Rattle.codes.specs.Search.{lacks, inverted, Known, Ahead, Begun, Seeking, Within, nothing, Sought}
 use Rattle.codes.proofs.Words.{length-word, same-length, parity-first, parity-rest, count-cons}
-use Rattle.codes.proofs.Words.{Codeword, codeword-parts, codeword-of, is-codeword, parity-of}
+use Rattle.codes.proofs.Words.{Codeword, codeword-parts, codeword-passes, is-codeword, codeword-parity}
 use Rattle.codes.proofs.Flips.{blank, invert, rowColumn, lacks-invert, take-invert, nearer, word-inverted}
 use Rattle.codes.proofs.Differences.{lacks-distance, lacks-both}
-use Rattle.codes.proofs.Searches.{Searchable, known-inverted, inverted-close}
+use Rattle.codes.proofs.Searches.{Searchable, known-inverted, inverted-nearer-by}
 
--- a row as a column: its value is the row's symbol, and it is the top row where that is 0
+-- the column with a one in row r alone: its value is the row's symbol, and its top bit is one where r is 0
 row-value : (r : ℕ) → r < 4 → value (rowColumn r) ≡ symbolOf r
 row-value r h = law-below 4 Symbol-discrete (λ r. value (rowColumn r)) symbolOf tt r h
 
@@ -130,7 +130,7 @@ module _ {π : Projection} {p : Bool} {a : List ℕ} {i left k s : ℕ} {off : B
     lacking : p ⊻ parity (getD (word π x) j blank) ≡ true
     lacking = ap (λ (c : Column). p ⊻ parity c) here ∙ lack
 
-    -- with row r of it inverted the search goes on, one position poorer
+    -- with row r of it inverted the search goes on, with one position fewer to invert
     pub seek-row : Searchable π → (r g : ℕ) (off′ : Bool) (y : ℕ) → r < 4 → g ≡ numberOf symbols (scale (symbolOf r) (getD (π .matrix) j [])) →
         off′ ≡ off ⊻ eqb r 0 → y ≡ inverted π x j (8 / 2 ^ r) → Seeking π p a j (left - 1) (k - 1) (bitXor s g) off′ y
     seek-row code r g off′ y hr eg eo ey =
@@ -171,14 +171,14 @@ module _ {π : Projection} {p : Bool} {a : List ℕ} {i left k s : ℕ} {off : B
               (omega (arith, near .2, w .close));
         })
 
-  -- what was found with a row inverted is one position further
+  -- what was found with a row inverted is at most one position further
   pub seek-found : (test : List Column → Bool) (r y : ℕ) → r < 4 → Within π test (k - 1) (inverted π x j (8 / 2 ^ r)) y → Within π test k x y
   seek-found test r y hr w =
       record {
         fits = w .fits;
         passes = w .passes;
         close =
-            omega (arith, w .close, inverted-close π x y j (8 / 2 ^ r) column-inside (row-small r hr), row-one r hr, seeking .enough, some);
+            omega (arith, w .close, inverted-nearer-by π x y j (8 / 2 ^ r) column-inside (row-small r hr), row-one r hr, seeking .enough, some);
       }
 
 -- the search begins with all columns ahead
@@ -206,7 +206,7 @@ too-many {π} {p} {a} {left} {s} {t} {n} {x} begun h y w =
     omega
     (arith, begun .lacking, w .close, lacks-distance p (word π x) (word π y) (same-length π x y) (codeword-parts π p (word π y) (w .passes) .parities))
 
--- the columns that lack a parity, by the number of odd ones
+-- the odd columns lack parity 0, and the others parity 1
 pub odd-lacks : (π : Projection) (a : List ℕ) (x n : ℕ) → held π a ≡ word π x → n ≡ odds (held π a) →
     (n ≡ lacks false (word π x)) × (n ≤ size π) × (size π - n ≡ lacks true (word π x))
 odd-lacks π a x n eh en =
@@ -221,8 +221,8 @@ within-any {π} {k} {x} {y} p w =
 pub sought-either : {π : Projection} {k x r : ℕ} → ((y : ℕ) → Within π (isCodewordOf π false) k x y → ⊥) →
     Sought (Within π (isCodewordOf π true) k x) r → Sought (Within π (isCodeword π) k x) r
 sought-either {π} {k} {x} {r} even odd =
-    record { found = λ l. within-any true (odd .found l); none = λ l y w. go l y w (parity-of π (word π y) (w .passes)) }
+    record { found = λ l. within-any true (odd .found l); none = λ l y w. go l y w (codeword-parity π (word π y) (w .passes)) }
   where
     go : nothing ≤ r → (y : ℕ) → Within π (isCodeword π) k x y → (p : Bool) × Codeword π p (word π y) → ⊥
-    go l y w (false, c) = even y (record { fits = w .fits; passes = codeword-of π false (word π y) c; close = w .close })
-    go l y w (true, c) = odd .none l y (record { fits = w .fits; passes = codeword-of π true (word π y) c; close = w .close })
+    go l y w (false, c) = even y (record { fits = w .fits; passes = codeword-passes π false (word π y) c; close = w .close })
+    go l y w (true, c) = odd .none l y (record { fits = w .fits; passes = codeword-passes π true (word π y) c; close = w .close })

@@ -1,7 +1,7 @@
--- Settling: a codeword of parity p near a word whose columns all have parity p. The difference of the two is an even word.
+-- Settling: a codeword of parity p close to a word whose columns all have parity p. The difference of the two is an even word.
 -- Where the syndrome is zero the difference has no live column: it is empty, or the top row is off and the codeword at least four positions
--- away. Else at least one column of the difference is live and has two ones, and just one is where there are at most three ones. The table
--- names that column and its value, and the top row says which two bits.
+-- away. Else at least one column of the difference is live and has two ones, and just one is live where the difference has at most three
+-- ones. The table names that column and its value, and the top row says which two bits.
 -- Assumes nothing.
 use mathlib.Core.Path.{_≡_, refl, sym, ap, _∙_, subst}
 use mathlib.Core.Bool.{Bool, true, false, not}
@@ -23,12 +23,12 @@ use Rattle.codes.specs.Projection.{Projection, wanted}
 use Rattle.codes.specs.Word.{word, _⊞_, syndromeOf, allParity, topRow, isCodewordOf, distance}
 use Rattle.codes.specs.Search.{entry, inverted, Known, Within}
 use Rattle.codes.proofs.Vectors.{add-zero-vector, zeros-zero}
-use Rattle.codes.proofs.Words.{codeword-parts, codeword-of, length-sum, topRow-sum, parity-sum, syndrome-sum, length-word, same-length}
+use Rattle.codes.proofs.Words.{codeword-parts, codeword-passes, length-sum, topRow-sum, parity-sum, syndrome-sum, length-word, same-length}
 use Rattle.codes.proofs.Distance.{onlyZeros, even-light}
 use Rattle.codes.proofs.Flips.{parity-invert, word-inverted}
 use Rattle.codes.proofs.Differences.{Named, none-even, more-than-none, more-than-one}
 use Rattle.codes.proofs.Sums.{digits-zero}
-use Rattle.codes.proofs.Searches.{Searchable, known-inverted, inverted-close}
+use Rattle.codes.proofs.Searches.{Searchable, known-inverted, inverted-nearer-by}
 
 xor-equal : (a b : Bool) → a ⊻ b ≡ false → a ≡ b
 xor-equal true true e = refl
@@ -57,7 +57,7 @@ module _ {π : Projection} {p : Bool} {s : ℕ} {off : Bool} {x : ℕ} (known : 
       record {
         fits = known .fits;
         passes =
-            codeword-of π p (word π x)
+            codeword-passes π p (word π x)
             (record { zero = zero-syndrome z; parities = par; tops = xor-equal (topRow (word π x)) (wanted (π .rule) p) (sym (known .tops) ∙ o) });
         close = omega (arith, distance-self (word π x));
       }
@@ -89,6 +89,7 @@ module _ {π : Projection} {p : Bool} {s : ℕ} {off : Bool} {x : ℕ} (known : 
       none-even π l (digits symbols (π .rows) s) t (word π x) (word π y) (known .syndromes) (codeword-parts π p (word π y) (w .passes) .zero)
       (length-word π x) (length-word π y) (even-difference y w) (omega (arith, w .close))
 
+  -- with another syndrome there is none within one position, and none within three where the syndrome has no entry
   pub settle-few : Searchable π → s < 4 ^ π .rows → (s ≡ 0 → ⊥) → k < 2 → (y : ℕ) → Within π (isCodewordOf π p) k x y → ⊥
   settle-few code h n l = none-of-few 0 (more-than-none π (code .tabled) s h n) (omega arith)
 
@@ -116,5 +117,5 @@ settle-pair {π} {p} {s} {off} {x} known par k code l {e} named q eq =
     record {
       fits = here .fits;
       passes = here .passes;
-      close = omega (arith, here .close, inverted-close π x y j q (named .place) small, ap weight ec, pair-weight v off (named .scaling));
+      close = omega (arith, here .close, inverted-nearer-by π x y j q (named .place) small, ap weight ec, pair-weight v off (named .scaling));
     }

@@ -1,6 +1,6 @@
 -- Strict reading: whether a word is a codeword, by what the walk over its columns collects.
 -- The syndrome is zero just where its number is 0; all columns are even just where none is odd, and odd just where as many are odd as
--- there are. So the four numbers that the walk and the code give decide each part of the definition of a codeword.
+-- there are. So what the walk collects, and the number of columns, decide each part of the definition of a codeword.
 -- Assumes nothing.
 use mathlib.Core.Path.{_≡_, refl, sym, ap, ap₂, _∙_}
 use mathlib.Core.Bool.{Bool, true, false, _&&_, _||_, Bool·beq, false≢true}
@@ -26,7 +26,7 @@ zeros-number : (r : ℕ) → numberOf symbols (zeros r) ≡ 0
 zeros-number zero = refl
 zeros-number (suc r) = omega (arith, zeros-number r)
 
--- a packed vector is zero where its number is
+-- a packed vector is zero just where its number is
 packed-zero : (r s : ℕ) → s < 4 ^ r → isZeroV (digits symbols r s) ≡ eqb s 0
 packed-zero r s h = go (isZeroV (digits symbols r s)) refl
   where

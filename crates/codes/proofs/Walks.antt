@@ -32,7 +32,7 @@ use Rattle.codes.proofs.Sums.{digits-zero, digits-add}
 walked-none : (r : ℕ) → Walked r [] [] 0 false 0
 walked-none r = record { syndromes = digits-zero r; tops = refl; odd = refl }
 
--- exclusive or of bits is that they are unequal
+-- two bits are unequal just where their exclusive or is one
 pub xor-code : (a b : Bool) → not (Bool·beq a b) ≡ a ⊻ b
 xor-code a b = law (bits ⊗ bits) Bool-discrete (λ (a, b). not (Bool·beq a b)) (λ (a, b). a ⊻ b) tt (a, b)
 

@@ -55,21 +55,21 @@ topRow-sum (a ∷ xs) (b ∷ ys) e =
     ap₂ _⊻_ (top-add a b) (topRow-sum xs ys (omega arith)) ∙ xor-swap (top a) (top b) (topRow xs) (topRow ys)
 
 -- two bits that a test finds equal, and the test of equal bits
-pub same-bit : (a b : Bool) → Bool·beq a b ≡ true → a ≡ b
-same-bit a b e = passed (Bool-discrete a b) (implied (bits ⊗ bits) (λ (a, b). Bool·beq a b) (λ (a, b). passes (Bool-discrete a b)) tt (a, b) e)
+pub beq-true : (a b : Bool) → Bool·beq a b ≡ true → a ≡ b
+beq-true a b e = passed (Bool-discrete a b) (implied (bits ⊗ bits) (λ (a, b). Bool·beq a b) (λ (a, b). passes (Bool-discrete a b)) tt (a, b) e)
 
-bit-same : (a b : Bool) → a ≡ b → Bool·beq a b ≡ true
-bit-same a b e = ap (Bool·beq a) (sym e) ∙ law bits Bool-discrete (λ a. Bool·beq a a) (λ a. true) tt a
+eq-beq : (a b : Bool) → a ≡ b → Bool·beq a b ≡ true
+eq-beq a b e = ap (Bool·beq a) (sym e) ∙ law bits Bool-discrete (λ a. Bool·beq a a) (λ a. true) tt a
 
 -- columns of one parity, the first and the others
 pub parity-first : (p : Bool) (c : Column) (cs : List Column) → allParity p (c ∷ cs) ≡ true → parity c ≡ p
-parity-first p c cs e = same-bit (parity c) p (and-eq-true-iff (Bool·beq (parity c) p) (allParity p cs) .0 e .0)
+parity-first p c cs e = beq-true (parity c) p (and-eq-true-iff (Bool·beq (parity c) p) (allParity p cs) .0 e .0)
 
 pub parity-rest : (p : Bool) (c : Column) (cs : List Column) → allParity p (c ∷ cs) ≡ true → allParity p cs ≡ true
 parity-rest p c cs e = and-eq-true-iff (Bool·beq (parity c) p) (allParity p cs) .0 e .1
 
 pub parity-cons : (p : Bool) (c : Column) (cs : List Column) → parity c ≡ p → allParity p cs ≡ true → allParity p (c ∷ cs) ≡ true
-parity-cons p c cs e t = ap₂ _&&_ (bit-same (parity c) p e) t
+parity-cons p c cs e t = ap₂ _&&_ (eq-beq (parity c) p e) t
 
 pub parity-sum : (p q : Bool) (a b : List Column) → allParity p a ≡ true → allParity q b ≡ true → allParity (p ⊻ q) (a ⊞ b) ≡ true
 parity-sum p q [] b s t = refl
@@ -94,15 +94,15 @@ pub codeword-parts : (π : Projection) (p : Bool) (cs : List Column) → isCodew
 codeword-parts π p cs e =
     let both = and-eq-true-iff (isZeroV (syndromeOf π cs)) (allParity p cs && Bool·beq (topRow cs) (wanted (π .rule) p)) .0 e in
     let rest = and-eq-true-iff (allParity p cs) (Bool·beq (topRow cs) (wanted (π .rule) p)) .0 (both .1) in
-    record { zero = both .0; parities = rest .0; tops = same-bit (topRow cs) (wanted (π .rule) p) (rest .1) }
+    record { zero = both .0; parities = rest .0; tops = beq-true (topRow cs) (wanted (π .rule) p) (rest .1) }
 
-pub codeword-of : (π : Projection) (p : Bool) (cs : List Column) → Codeword π p cs → isCodewordOf π p cs ≡ true
-codeword-of π p cs k = ap₂ _&&_ (k .zero) (ap₂ _&&_ (k .parities) (bit-same (topRow cs) (wanted (π .rule) p) (k .tops)))
+pub codeword-passes : (π : Projection) (p : Bool) (cs : List Column) → Codeword π p cs → isCodewordOf π p cs ≡ true
+codeword-passes π p cs k = ap₂ _&&_ (k .zero) (ap₂ _&&_ (k .parities) (eq-beq (topRow cs) (wanted (π .rule) p) (k .tops)))
 
 -- a codeword has one of the two parities
-pub parity-of : (π : Projection) (cs : List Column) → isCodeword π cs ≡ true → (p : Bool) × Codeword π p cs
+pub codeword-parity : (π : Projection) (cs : List Column) → isCodeword π cs ≡ true → (p : Bool) × Codeword π p cs
 unfolding isCodeword
-parity-of π cs e = go (isCodewordOf π false cs) refl e
+codeword-parity π cs e = go (isCodewordOf π false cs) refl e
   where
     go : (b : Bool) → isCodewordOf π false cs ≡ b → b || isCodewordOf π true cs ≡ true → (p : Bool) × Codeword π p cs
     go true f t = (false, codeword-parts π false cs f)
@@ -110,8 +110,8 @@ parity-of π cs e = go (isCodewordOf π false cs) refl e
 
 pub is-codeword : (π : Projection) (p : Bool) (cs : List Column) → Codeword π p cs → isCodeword π cs ≡ true
 unfolding isCodeword
-is-codeword π false cs k = ap (λ (b : Bool). b || isCodewordOf π true cs) (codeword-of π false cs k)
-is-codeword π true cs k = ap (λ (b : Bool). isCodewordOf π false cs || b) (codeword-of π true cs k) ∙ or-true (isCodewordOf π false cs)
+is-codeword π false cs k = ap (λ (b : Bool). b || isCodewordOf π true cs) (codeword-passes π false cs k)
+is-codeword π true cs k = ap (λ (b : Bool). isCodewordOf π false cs || b) (codeword-passes π true cs k) ∙ or-true (isCodewordOf π false cs)
 
 pub wanted-even : (r : TopRule) → wanted r false ≡ false
 wanted-even ruleO = refl

@@ -1,4 +1,4 @@
--- `codes::calls::is_codeword` meets its contract: each test settles one part of the verdict.
+-- `codes::calls::is_codeword` meets its contract: each test settles one part of the verdict on what the walk collects.
 -- Assumes nothing.
 use mathlib.Core.Path.{_≡_, refl, sym, ap, _∙_}
 use mathlib.Core.Bool.{Bool, true, false, not, Bool·beq, Bool-discrete}

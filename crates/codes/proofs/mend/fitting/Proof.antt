@@ -1,4 +1,4 @@
--- `codes::mend::fitting` meets its contract: the one codeword that is within three positions is near, or none of them is.
+-- `codes::mend::fitting` meets its contract: at most one codeword is within three positions, and it is near or no near one is.
 -- Assumes nothing.
 use native.Mathlib.Omega.{arith}
 use borrow.Author.Needs.{needs}

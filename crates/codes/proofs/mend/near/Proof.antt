@@ -1,4 +1,4 @@
--- `codes::mend::near` meets its contract: each length's tables are those that its matrix gives by their rules.
+-- `codes::mend::near` meets its contract: each length's tables are those that their rules give for its matrix, by computation.
 -- Assumes nothing.
 use mathlib.Core.Path.{refl}
 use borrow.Author.Needs.{needs}

@@ -1,5 +1,6 @@
--- `codes::search::seek` meets its contract: each of its answers is a step of the search's theory. It ends, since the number of columns
--- ahead falls. The loop's invariant: no codeword is within k - 1 positions with a row that was passed inverted.
+-- `codes::search::seek` meets its contract: where no column lacks the parity the word is settled; else a column that has the parity is
+-- passed, and one that lacks it is tried with each row inverted. It ends, since the number of columns ahead falls. The loop's invariant:
+-- with none of the rows that were tried inverted is a codeword within k - 1 positions.
 -- Assumes nothing.
 use mathlib.Core.Path.{sym, _∙_, subst}
 use Prim.Native.Nat.{ℕ, _-_, _/_, _^_, _≤_, _<_}
@@ -13,7 +14,7 @@ use Rattle.codes.specs.Codes.{projection}
 use Rattle.codes.specs.Word.{word, isCodewordOf}
 use Rattle.codes.specs.Search.{inverted, Within}
 use Rattle.codes.proofs.Codes.{size-le}
-use Rattle.codes.proofs.Words.{codeword-parts, same-bit}
+use Rattle.codes.proofs.Words.{codeword-parts, beq-true}
 use Rattle.codes.proofs.Walks.{xor-code}
 use Rattle.codes.proofs.Differences.{lacks-none}
 use Rattle.codes.proofs.Searches.{sought-one, sought-none}
@@ -98,7 +99,7 @@ seek-requires t c κs =
     let s = c .before .before .before .before .before .before in
     let some = c .before .before .before .before .before .if1 .left in (
       omega (arith, s .pre .0, column-ahead (s .pre .1 .1) some),
-      (s .pre .1 .0, seek-skip (s .pre .1 .1) some (sym (c .before .parity .ensures) ∙ same-bit _ _ (c .if3 .taken))),
+      (s .pre .1 .0, seek-skip (s .pre .1 .1) some (sym (c .before .parity .ensures) ∙ beq-true _ _ (c .if3 .taken))),
     )
 
 returns-3 : (t : ℕ) → lts.Need-returns-3 (claims t) (Asks t) seek.Post Inv-loop μ-loop

@@ -1,4 +1,4 @@
--- `codes::search::hopeless` meets its contract: only a syndrome without an entry is called hopeless.
+-- `codes::search::hopeless` meets its contract: only a syndrome other than zero that has no entry is called hopeless, at k of at most 1.
 -- Assumes nothing.
 use mathlib.Core.Path.{sym, _∙_}
 use mathlib.Core.Bool.{false≢true}

@@ -1,4 +1,4 @@
--- `codes::search::settle` meets its contract: each of its answers is a case of the search's theory.
+-- `codes::search::settle` meets its contract: the word itself, the word with two bits inverted of the column that the entry names, or none.
 -- Assumes nothing.
 use mathlib.Core.Path.{sym, _∙_, subst}
 use mathlib.Core.Bool.{false}

@@ -1,4 +1,4 @@
--- `codes::search::within_three` meets its contract: a codeword is even or odd.
+-- `codes::search::within_three` meets its contract: a codeword is even or odd, and the number of odd columns tells how many lack each parity.
 -- Assumes nothing.
 use mathlib.Core.Path.{ap, _∙_}
 use mathlib.Core.Bool.{false}

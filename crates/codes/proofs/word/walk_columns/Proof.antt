@@ -1,5 +1,5 @@
--- `codes::word::walk_columns` meets its contract. At the loop's head everything is collected of the columns from i on, and with them
--- at most ten columns are odd.
+-- `codes::word::walk_columns` meets its contract. At the loop's head everything is collected of the columns from i on, and the odd ones
+-- among them and the i columns ahead are at most ten, so that their number fits a byte.
 -- Assumes nothing.
 use mathlib.Core.Path.{_≡_, sym, ap, _∙_, subst, subst₂}
 use mathlib.Core.Bool.{Bool, false, not, Bool·beq}

@@ -1,4 +1,4 @@
--- `codes::Code::from_number` meets its contract: each number of the list, and the rest.
+-- `codes::Code::from_number` meets its contract: the numbers 1 to 4 one by one, and any other, which is no code's.
 -- Assumes nothing.
 use mathlib.Core.Path.{_≡_, refl, sym, ap}
 use mathlib.Core.Bool.{Bool, true, false, cond, _&&_}
@@ -12,6 +12,7 @@ use Rattle.codes.specs.Codes.{isCode, codeOf, codeFound}
 use Rattle.codes.proofs.code.Code.from_number.Statement.{statement}
 use Rattle.codes.proofs.code.Code.from_number.Tie as tie
 
+-- a number other than 1 to 4 is no code's
 unknown : (n : ℕ) → (n ≡ 1 → ⊥) → (n ≡ 2 → ⊥) → (n ≡ 3 → ⊥) → (n ≡ 4 → ⊥) → isCode n ≡ false
 unknown n h1 h2 h3 h4 = go (leb 1 n) (leb n 4) refl refl
   where
