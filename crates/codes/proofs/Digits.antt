@@ -8,13 +8,14 @@ use Prim.Native.Nat.{ℕ, zero, suc, _+_, _*_, _/_, _%_, _^_, _<_}
 use native.Mathlib.Nat.{mod-lt, mod-eq-of-lt, mod-one, one-le-pow, one-mul, pow-succ', pow-zero}
 use native.Mathlib.Omega.{arith}
 use lib.Arith.{digits-lt, digits-div, digits-mod, mod-mul}
-use lib.Dec.{eqb, ltb, ltb→lt, lit<}
+use lib.Dec.{lit<}
 use lib.ListN.{length}
 use lib.Pow.{shl-exact}
 use Rattle.symbols.specs.Symbol.{bit}
 use Rattle.symbols.specs.Column.{one}
 use Rattle.symbols.proofs.Every.{bits as all-bits, law, law-below, number-discrete}
-use Rattle.symbols.proofs.Numbers.{symbol-of-number, number-of-symbol, symbol-number-lt, symbol-mod}
+use Rattle.symbols.proofs.Columns.{one-le}
+use Rattle.symbols.proofs.Numbers.{bit-mod, symbol-of-number, number-of-symbol, symbol-number-lt, symbol-mod}
 use Rattle.symbols.proofs.Numbers.{column-of-number, number-of-column, column-number-lt, column-mod}
 use Rattle.codes.specs.Digits.{Digit, bits, symbols, columns, digits, numberOf}
 
@@ -25,22 +26,6 @@ pub record Fit {A : Type 0} (d : Digit A) : Type 0 where
   pub back : (x : A) → d .lowest (d .number x) ≡ x
   pub there : (n : ℕ) → d .number (d .lowest n) ≡ n % d .base
   pub modulo : (n : ℕ) → d .lowest (n % d .base) ≡ d .lowest n
-
-pub bits-fit : Fit bits
-bits-fit =
-    record {
-      pos = lit< tt;
-      small = λ x. ltb→lt (one x) 2 (all-bits .at (λ x. ltb (one x) 2) tt x);
-      back = λ x. law all-bits Bool-discrete (λ x. bit 0 (one x)) (λ x. x) tt x;
-      there = bit-number;
-      modulo = λ n. ap (λ (x : ℕ). eqb x 1) (half-mod n);
-    }
-  where
-    half-mod : (n : ℕ) → n % 2 / 1 % 2 ≡ n / 1 % 2
-    half-mod n = omega arith
-
-    bit-number : (n : ℕ) → one (bit 0 n) ≡ n % 2
-    bit-number n = law-below 2 number-discrete (λ k. one (eqb k 1)) (λ k. k) tt (n / 1 % 2) (mod-lt (n / 1) (lit< tt)) ∙ omega arith
 
 -- it is enough that the digits and the numbers below the base are each other's, and that a number has its remainder's lowest digit
 below-base : {A : Type 0} (d : Digit A) → 0 < d .base → ((x : A) → d .number x < d .base) → ((x : A) → d .lowest (d .number x) ≡ x) →
@@ -53,6 +38,11 @@ below-base d pos small back there modulo =
       there = λ n. ap (d .number) (sym (modulo n)) ∙ there (n % d .base) (mod-lt n pos);
       modulo = modulo;
     }
+
+pub bits-fit : Fit bits
+bits-fit =
+    below-base bits (lit< tt) (λ x. omega (arith, one-le x)) (law all-bits Bool-discrete (λ x. bit 0 (one x)) (λ x. x) tt)
+    (law-below 2 number-discrete (λ n. one (bit 0 n)) (λ n. n) tt) (bit-mod 0 0)
 
 pub symbols-fit : Fit symbols
 symbols-fit = below-base symbols (lit< tt) symbol-number-lt symbol-of-number number-of-symbol symbol-mod

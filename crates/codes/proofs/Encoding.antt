@@ -3,14 +3,14 @@
 -- fixed by the free ones, its top bits by all but the last: these and the parity are the message.
 -- Assumes nothing.
 use mathlib.Core.Path.{_≡_, refl, sym, ap, ap₂, _∙_}
-use mathlib.Core.Bool.{Bool, true, false, Bool-discrete}
+use mathlib.Core.Bool.{Bool, true, false}
 use mathlib.Core.List.{List, [], _∷_, map}
 use Prim.Native.Nat.{suc, _-_, _<_}
 use native.Mathlib.Omega.{arith}
 use lib.ListN.{length, length-map}
 use Rattle.symbols.specs.Symbol.{_⊻_, Symbol}
 use Rattle.symbols.specs.Column.{Column, value, parity, top, columnWith}
-use Rattle.symbols.proofs.Every.{bits, _⊗_, law}
+use Rattle.symbols.proofs.Symbols.{xor-false, xor-twice}
 use Rattle.symbols.proofs.Columns.{with-of, parity-with, value-with, top-with}
 use Rattle.codes.specs.Vector.{isZeroV}
 use Rattle.codes.specs.Projection.{Projection, wanted, count, size, topBits}
@@ -55,12 +55,6 @@ top-row : (cs : List Column) → topRow cs ≡ xors (map top cs)
 unfolding xors
 top-row [] = refl
 top-row (c ∷ cs) = ap (λ (b : Bool). top c ⊻ b) (top-row cs)
-
-xor-false : (a : Bool) → a ⊻ false ≡ a
-xor-false a = law bits Bool-discrete (λ a. a ⊻ false) (λ a. a) tt a
-
-xor-twice : (a b : Bool) → a ⊻ (a ⊻ b) ≡ b
-xor-twice a b = law (bits ⊗ bits) Bool-discrete (λ (a, b). a ⊻ (a ⊻ b)) (λ (a, b). b) tt (a, b)
 
 pub length-tops : (t : Bool) (bs : List Bool) → length (allTops t bs) ≡ suc (length bs)
 length-tops t [] = refl

@@ -15,8 +15,8 @@ use lib.ListN.{length, getD, take}
 use lib.Pow.{pow-mono, shl-lt}
 use Rattle.symbols.specs.Symbol.{_⊻_, Symbol}
 use Rattle.symbols.specs.Column.{Column, column, Column-discrete, value, parity, top, one, weight, _⊕_, columnOf}
-use Rattle.symbols.proofs.Every.{bits, columns as all-columns, _⊗_, law, implied}
-use Rattle.symbols.proofs.Symbols.{xor-assoc, xor-comm}
+use Rattle.symbols.proofs.Every.{columns as all-columns, _⊗_, law, implied}
+use Rattle.symbols.proofs.Symbols.{xor-assoc, xor-comm, xor-last}
 use Rattle.symbols.proofs.Columns.{value-add, parity-add, top-add}
 use Rattle.codes.specs.Digits.{columns, digits}
 use Rattle.codes.specs.Vector.{addV, scale}
@@ -56,9 +56,6 @@ syndrome-invert r (x ∷ H) zero q (c ∷ cs) e h =
 syndrome-invert r (x ∷ H) (suc j) q (c ∷ cs) e h =
     ap (addV (scale (value c) x)) (syndrome-invert r H j q cs (omega arith) (omega arith))
     ∙ sym (addV-assoc (scale (value c) x) (syndrome r H (map value cs)) (scale (value q) (getD H j [])))
-
-pub xor-last : (a b c : Bool) → (a ⊻ b) ⊻ c ≡ (a ⊻ c) ⊻ b
-xor-last a b c = law (bits ⊗ bits ⊗ bits) Bool-discrete (λ (a, (b, c)). (a ⊻ b) ⊻ c) (λ (a, (b, c)). (a ⊻ c) ⊻ b) tt (a, (b, c))
 
 pub topRow-invert : (j : ℕ) (q : Column) (f : List Column) → j < length f → topRow (invert j q f) ≡ topRow f ⊻ top q
 topRow-invert j q [] h = absurd (omega arith)

@@ -14,6 +14,7 @@ use lib.ListN.{length, getD}
 use lib.Pow.{pow-mono}
 use Rattle.symbols.specs.Symbol.{_⊻_}
 use Rattle.symbols.specs.Column.{Column, value, top, weight, columnOf}
+use Rattle.symbols.proofs.Symbols.{xor-last}
 use Rattle.codes.specs.Digits.{symbols, digits, numberOf}
 use Rattle.codes.specs.Vector.{addV, scale}
 use Rattle.codes.specs.Projection.{Projection, wanted, size, width}
@@ -24,7 +25,7 @@ use Rattle.codes.proofs.Digits.{symbols-fit, digits-again}
 use Rattle.codes.proofs.Distance.{Apart}
 use Rattle.codes.proofs.Sums.{digits-add}
 use Rattle.codes.proofs.Walks.{shaped-at}
-use Rattle.codes.proofs.Flips.{xor-last, syndrome-invert, topRow-invert, nearer-by, word-inverted, inverted-fits}
+use Rattle.codes.proofs.Flips.{syndrome-invert, topRow-invert, nearer-by, word-inverted, inverted-fits}
 use Rattle.codes.proofs.Differences.{Tabled, none-close, more-than-one}
 use Rattle.codes.proofs.Words.{length-word, same-length}
 

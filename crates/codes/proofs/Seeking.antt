@@ -4,7 +4,7 @@
 -- A codeword is even or odd, so what is within three positions is found by a search for each.
 -- Assumes nothing.
 use mathlib.Core.Path.{_≡_, refl, sym, ap, _∙_, subst, subst₂}
-use mathlib.Core.Bool.{Bool, true, false, Bool·beq, Bool-discrete}
+use mathlib.Core.Bool.{Bool, true, false, not, Bool·beq, Bool-discrete}
 use mathlib.Core.List.{List, [], _∷_, map}
 use Prim.Native.Nat.{ℕ, zero, suc, _+_, _-_, _/_, _^_, _≤_, _<_}
 use native.Mathlib.Omega.{arith}
@@ -15,7 +15,7 @@ use lib.Seq.{getD-take, take-take, take-all}
 use Rattle.symbols.specs.Symbol.{_⊻_, Symbol, Symbol-discrete, symbolOf}
 use Rattle.symbols.specs.Column.{Column, value, parity, top, one, weight, columnOf}
 use Rattle.symbols.proofs.Every.{law-below, at-below, number-discrete}
-use Rattle.symbols.proofs.Symbols.{xor-self, xor-comm}
+use Rattle.symbols.proofs.Symbols.{xor-self, xor-comm, unequal-xor}
 use Rattle.codes.specs.Digits.{symbols, numberOf}
 use Rattle.codes.specs.Vector.{scale}
 use Rattle.codes.specs.Projection.{Projection, wanted, size}
@@ -46,13 +46,7 @@ row-small r h = ltb→lt (8 / 2 ^ r) 16 (at-below 4 (λ r. ltb (8 / 2 ^ r) 16) t
 
 -- a column whose parity was compared with p, and is not that
 pub lacks-other : (a p : Bool) {q : Bool} → Bool·beq a p ≡ false → a ≡ q → p ⊻ q ≡ true
-lacks-other a p e g = ap (λ (b : Bool). p ⊻ b) (sym g) ∙ other a p e
-  where
-    other : (a p : Bool) → Bool·beq a p ≡ false → p ⊻ a ≡ true
-    other true true e = sym e
-    other true false e = refl
-    other false true e = refl
-    other false false e = sym e
+lacks-other a p e g = ap (λ (b : Bool). p ⊻ b) (sym g) ∙ xor-comm p a ∙ sym (unequal-xor a p) ∙ ap not e
 
 -- the columns that lack a parity among the first, one column more
 lacks-last : (p : Bool) (cs : List Column) (j : ℕ) → j < length cs →

@@ -4,17 +4,18 @@
 -- ones. The table names that column and its value, and the top row says which two bits.
 -- Assumes nothing.
 use mathlib.Core.Path.{_≡_, refl, sym, ap, _∙_, subst}
-use mathlib.Core.Bool.{Bool, true, false, not}
+use mathlib.Core.Bool.{Bool, true, false, not, Bool·beq}
 use mathlib.Core.List.{List, [], _∷_}
 use Prim.Native.Nat.{ℕ, zero, _+_, _-_, _*_, _/_, _%_, _^_, _≤_, _<_}
 use native.Mathlib.Omega.{arith}
+use borrow.Author.Tests.{not-false}
 use lib.Bits.{xor-self as xor-same}
 use lib.Dec.{T, eqb, eqb→eq}
 use lib.ListN.{getD}
 use Rattle.symbols.specs.Symbol.{_⊻_, Symbol, isZero, symbolOf}
 use Rattle.symbols.specs.Column.{Column, value, parity, top, one, weight, _⊕_, columnOf, columnNumber, columnWith}
 use Rattle.symbols.proofs.Every.{bits, symbols as all-symbols, columns as all-columns, _⊗_, implied}
-use Rattle.symbols.proofs.Symbols.{xor-self}
+use Rattle.symbols.proofs.Symbols.{xor-self, unequal-xor}
 use Rattle.symbols.proofs.Columns.{parity-with, value-with, top-with}
 use Rattle.symbols.proofs.Numbers.{column-of-number, column-number-lt}
 use Rattle.codes.specs.Digits.{symbols, digits, numberOf}
@@ -23,7 +24,7 @@ use Rattle.codes.specs.Projection.{Projection, wanted}
 use Rattle.codes.specs.Word.{word, _⊞_, syndromeOf, allParity, topRow, isCodewordOf, distance}
 use Rattle.codes.specs.Search.{entry, inverted, Known, Within}
 use Rattle.codes.proofs.Vectors.{add-zero-vector, zeros-zero}
-use Rattle.codes.proofs.Words.{codeword-parts, codeword-passes, length-sum, topRow-sum, parity-sum, syndrome-sum, length-word, same-length}
+use Rattle.codes.proofs.Words.{beq-true, codeword-parts, codeword-passes, length-sum, topRow-sum, parity-sum, syndrome-sum, length-word, same-length}
 use Rattle.codes.proofs.Distance.{onlyZeros, even-light}
 use Rattle.codes.proofs.Flips.{parity-invert, word-inverted}
 use Rattle.codes.proofs.Differences.{Named, none-even, more-than-none, more-than-one}
@@ -31,10 +32,7 @@ use Rattle.codes.proofs.Sums.{digits-zero}
 use Rattle.codes.proofs.Searches.{Searchable, known-inverted, inverted-nearer-by}
 
 xor-equal : (a b : Bool) → a ⊻ b ≡ false → a ≡ b
-xor-equal true true e = refl
-xor-equal true false e = e
-xor-equal false true e = sym e
-xor-equal false false e = refl
+xor-equal a b e = beq-true a b (not-false (Bool·beq a b) (unequal-xor a b ∙ e))
 
 distance-self : (f : List Column) → distance f f ≡ 0
 distance-self [] = refl

@@ -4,7 +4,7 @@
 -- number of odd columns are all defined by the first column and the rest.
 -- Assumes nothing.
 use mathlib.Core.Path.{_≡_, refl, sym, ap, ap₂, _∙_, subst₂}
-use mathlib.Core.Bool.{Bool, true, false, not, Bool·beq, Bool-discrete, and-eq-true-iff}
+use mathlib.Core.Bool.{Bool, true, false, not, Bool·beq, and-eq-true-iff}
 use mathlib.Core.List.{List, [], _∷_, map}
 use Prim.Native.Nat.{ℕ, zero, suc, _+_, _≤_, _<_}
 use native.Mathlib.Omega.{arith}
@@ -15,8 +15,7 @@ use lib.ListN.{length, getD, take, drop, drop-of-length-le, List·getD-map, leng
 use lib.Seq.{drop-cons, drop-length, getD-take, length-take-le}
 use Rattle.symbols.specs.Symbol.{_⊻_, Symbol}
 use Rattle.symbols.specs.Column.{Column, value, parity, top, one, columnOf}
-use Rattle.symbols.proofs.Every.{bits, _⊗_, law}
-use Rattle.symbols.proofs.Symbols.{xor-comm}
+use Rattle.symbols.proofs.Symbols.{xor-comm, unequal-xor}
 use Rattle.symbols.proofs.Columns.{one-le}
 use Rattle.codes.specs.Digits.{symbols, digits, numberOf}
 use Rattle.codes.specs.Vector.{addV, scale}
@@ -32,10 +31,6 @@ use Rattle.codes.proofs.Sums.{digits-zero, digits-add}
 walked-none : (r : ℕ) → Walked r [] [] 0 false 0
 walked-none r = record { syndromes = digits-zero r; tops = refl; odd = refl }
 
--- two bits are unequal just where their exclusive or is one
-pub xor-code : (a b : Bool) → not (Bool·beq a b) ≡ a ⊻ b
-xor-code a b = law (bits ⊗ bits) Bool-discrete (λ (a, b). not (Bool·beq a b)) (λ (a, b). a ⊻ b) tt (a, b)
-
 -- one column more in front
 walked-more : (r : ℕ) (h : List Symbol) (H : List (List Symbol)) (c : Column) (cs : List Column) (s : ℕ) (t : Bool) (n g : ℕ) →
     length h ≡ r → g ≡ numberOf symbols (scale (value c) h) → Walked r H cs s t n →
@@ -47,7 +42,7 @@ walked-more r h H c cs s t n g eh eg w =
           ∙ ap₂ addV (w .syndromes)
           (ap (digits symbols r) eg ∙ digits-again symbols symbols-fit r (scale (value c) h) (length-scale (value c) h ∙ eh))
           ∙ addV-comm (syndrome r H (map value cs)) (scale (value c) h);
-      tops = xor-code t (top c) ∙ ap (λ (b : Bool). b ⊻ top c) (w .tops) ∙ xor-comm (topRow cs) (top c);
+      tops = unequal-xor t (top c) ∙ ap (λ (b : Bool). b ⊻ top c) (w .tops) ∙ xor-comm (topRow cs) (top c);
       odd = omega (arith, w .odd, count-cons (parity c) (map parity cs));
     }
 

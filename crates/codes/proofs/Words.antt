@@ -11,6 +11,7 @@ use lib.ListN.{length, length-map}
 use Rattle.symbols.specs.Symbol.{_⊻_}
 use Rattle.symbols.specs.Column.{Column, value, parity, top, one, _⊕_}
 use Rattle.symbols.proofs.Every.{bits, _⊗_, law, implied, passes, passed}
+use Rattle.symbols.proofs.Symbols.{xor-swap}
 use Rattle.symbols.proofs.Columns.{value-add, parity-add, top-add}
 use Rattle.codes.specs.Digits.{columns}
 use Rattle.codes.specs.Vector.{addV, isZeroV}
@@ -41,11 +42,6 @@ pub syndrome-sum : (π : Projection) (a b : List Column) → length a ≡ length
 syndrome-sum π a b e =
     ap (syndrome (π .rows) (π .matrix)) (values-sum a b e)
     ∙ syndrome-add (π .rows) (π .matrix) (map value a) (map value b) (length-map a value ∙ e ∙ sym (length-map b value))
-
-xor-swap : (a b c d : Bool) → (a ⊻ b) ⊻ (c ⊻ d) ≡ (a ⊻ c) ⊻ (b ⊻ d)
-xor-swap a b c d =
-    law (bits ⊗ bits ⊗ bits ⊗ bits) Bool-discrete (λ (a, (b, (c, d))). (a ⊻ b) ⊻ (c ⊻ d)) (λ (a, (b, (c, d))). (a ⊻ c) ⊻ (b ⊻ d)) tt
-    (a, (b, (c, d)))
 
 pub topRow-sum : (a b : List Column) → length a ≡ length b → topRow (a ⊞ b) ≡ topRow a ⊻ topRow b
 topRow-sum [] [] e = refl

@@ -31,7 +31,7 @@ pub column-number-lt : (c : Column) → columnNumber c < 16
 column-number-lt c = ltb→lt (columnNumber c) 16 (columns .at (λ c. ltb (columnNumber c) 16) tt c)
 
 -- a number's low bits are those of its remainder
-bit-mod : (k j n : ℕ) → bit k (n % 2 ^ (j + 1 + k)) ≡ bit k n
+pub bit-mod : (k j n : ℕ) → bit k (n % 2 ^ (j + 1 + k)) ≡ bit k n
 bit-mod k j n =
     ap (λ (x : ℕ). eqb (x % 2) 1) (field n (j + 1) k)
     ∙ ap (λ (x : ℕ). eqb x 1) (mod-mod-pow _ j 1)

@@ -12,12 +12,11 @@ use lib.ListN.{length, take, drop, set, length-set}
 use lib.Seq.{append-snoc}
 use Rattle.symbols.specs.Symbol.{_⊻_, bit}
 use Rattle.symbols.specs.Column.{Column, columnOf, columnWith}
-use Rattle.symbols.proofs.Symbols.{xor-comm}
+use Rattle.symbols.proofs.Symbols.{xor-comm, unequal-xor}
 use Rattle.codes.specs.Projection.{Projection, wanted, size, topBits}
 use Rattle.codes.specs.Codes.{projection}
 use Rattle.codes.specs.Walk.{valueAt, drafted}
 use Rattle.codes.proofs.Codes.{size-le, bits-le, systematic}
-use Rattle.codes.proofs.Walks.{xor-code}
 use Rattle.codes.proofs.Placing.{Systematic}
 use Rattle.codes.proofs.Drafts.{stored-more, parity-bit, draftAt, draftFrom, draft-all, draft-next, draft-last}
 use Rattle.codes.proofs.message.draft.Statement.{statement}
@@ -116,7 +115,7 @@ loop-again c =
     c .column-at .ensures
     ∙ ap₂ (λ (p t : Bool). columnWith p (valueAt (drop (l .i) (π .free)) (a .message / 2 ^ topBits π) (a .syndrome)) t) (parity-bit π (a .message)) eb in
     let et : not (Bool·beq (l .top) b) ≡ bit (topBits π - 1 - l .i) (a .message) ⊻ l .top =
-    xor-code (l .top) b ∙ ap (λ (x : Bool). l .top ⊻ x) eb ∙ xor-comm (l .top) (bit (topBits π - 1 - l .i) (a .message)) in (
+    unequal-xor (l .top) b ∙ ap (λ (x : Bool). l .top ⊻ x) eb ∙ xor-comm (l .top) (bit (topBits π - 1 - l .i) (a .message)) in (
       omega arith,
       simp length-set (l .inv .1),
       turn π (systematic (a .code)) (a .message) (a .syndrome) (l .i) (l .top) _ (l .columns) v (omega arith) (omega (arith, size-le (a .code))) ec et
