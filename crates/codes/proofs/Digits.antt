@@ -1,16 +1,17 @@
 -- Numbers and their digits: there and back, for bits, symbols and columns at once.
--- A number modulo b^(k+1) is its digit k times b^k plus the number modulo b^k; all laws follow from that by induction on k.
+-- A number modulo b^(k+1) is its digit k times b^k plus the number modulo b^k; all laws of digits follow from that by induction on k.
+-- Below them stand laws of powers and shifts.
 -- Assumes nothing.
 use mathlib.Core.Path.{_≡_, refl, sym, ap, ap₂, _∙_, subst}
 use mathlib.Core.Bool.{Bool-discrete}
 use mathlib.Core.List.{List, [], _∷_}
 use Prim.Native.Nat.{ℕ, zero, suc, _+_, _*_, _/_, _%_, _^_, _<_}
-use native.Mathlib.Nat.{mod-lt, mod-eq-of-lt, mod-one, one-le-pow, one-mul, pow-succ', pow-zero}
+use native.Mathlib.Nat.{div-one, mod-lt, mod-eq-of-lt, mod-one, mul-zero, mul-suc, one-le-pow, one-mul, pow-zero, pow-suc, pow-succ'}
 use native.Mathlib.Omega.{arith}
 use lib.Arith.{digits-lt, digits-div, digits-mod, mod-mul}
-use lib.Dec.{lit<}
+use lib.Dec.{eqb, lit<}
 use lib.ListN.{length}
-use lib.Pow.{shl-exact}
+use lib.Pow.{pow-add, shl-exact, shr-shr}
 use Rattle.symbols.specs.Symbol.{bit}
 use Rattle.symbols.specs.Column.{one}
 use Rattle.symbols.proofs.Every.{bits as all-bits, law, law-below, number-discrete}
@@ -103,6 +104,22 @@ module _ {A : Type 0} (d : Digit A) (fit : Fit d) where
 
   pub number-again : (k n : ℕ) → n < d .base ^ k → numberOf d (digits d k n) ≡ n
   number-again k n h = number-digits k n ∙ mod-eq-of-lt h
+
+-- a power of a power
+pub pow-mul : (a m n : ℕ) → (a ^ m) ^ n ≡ a ^ (m * n)
+pow-mul a m zero = pow-zero (a ^ m) ∙ sym (ap (λ (x : ℕ). a ^ x) (mul-zero m) ∙ pow-zero a)
+pow-mul a m (suc n) =
+    pow-suc (a ^ m) n
+    ∙ ap (λ (x : ℕ). x * a ^ m) (pow-mul a m n)
+    ∙ sym (ap (λ (x : ℕ). a ^ x) (mul-suc m n) ∙ pow-add a (m * n) m)
+
+-- two shifts are one
+pub shift-shift : (n k f : ℕ) → n / 2 ^ k / 4 ^ f ≡ n / 2 ^ (k + 2 * f)
+shift-shift n k f = ap (λ (x : ℕ). n / 2 ^ k / x) (pow-mul 2 2 f) ∙ shr-shr n k (2 * f)
+
+-- a bit is the lowest of a quotient
+pub bit-at : (k n : ℕ) → bit 0 (n / 2 ^ k) ≡ bit k n
+bit-at k n = ap (λ (x : ℕ). eqb (x % 2) 1) (div-one (n / 2 ^ k))
 
 -- a shift of 1 by fewer than 64 places is a power of two
 pub power-fits : (k : ℕ) → k < 64 → (1 * 2 ^ k) % 2 ^ 64 ≡ 2 ^ k

@@ -6,12 +6,9 @@
 use mathlib.Core.Path.{_≡_, refl, sym, ap, ap₂, _∙_, subst}
 use mathlib.Core.Bool.{Bool, true, false, not}
 use mathlib.Core.List.{List, [], _∷_, _++_, map, map-append}
-use Prim.Native.Nat.{ℕ, suc, _+_, _-_, _*_, _/_, _%_, _^_, _<_}
-use native.Mathlib.Nat.{div-one}
+use Prim.Native.Nat.{ℕ, suc, _+_, _-_, _*_, _/_, _^_, _<_}
 use native.Mathlib.Omega.{arith}
-use lib.Dec.{eqb}
 use lib.ListN.{length, getD, take, drop, set, length-drop, drop-of-length-le}
-use lib.Pow.{shr-shr}
 use lib.Seq.{drop-cons, take-suc-set}
 use Rattle.symbols.specs.Symbol.{_⊻_, Symbol, bit}
 use Rattle.symbols.specs.Column.{Column, value, columnOf, columnWith}
@@ -20,10 +17,10 @@ use Rattle.codes.specs.Projection.{Projection, wanted, count, topBits, m
 use Rattle.codes.specs.Word.{syndrome, syndromeOf}
 use Rattle.codes.specs.Message.{messageOf, place, allTops, columnsWith, codewordOf}
 use Rattle.codes.specs.Walk.{valueAt, drafted}
-use Rattle.codes.proofs.Digits.{length-digits}
+use Rattle.codes.proofs.Digits.{length-digits, bit-at}
 use Rattle.codes.proofs.Placing.{Systematic, length-place, place-zeros}
 use Rattle.codes.proofs.Encoding.{with-values, length-tops}
-use Rattle.codes.proofs.Sums.{pow-mul, digits-zero}
+use Rattle.codes.proofs.Sums.{digits-zero}
 
 -- the free columns and the others make up all, and all that are behind column i
 count-both : (l : List Bool) → count l + count (map not l) ≡ length l
@@ -52,19 +49,11 @@ module _ (l : List Bool) (i : ℕ) (h : i < length l) where
       subst (λ (k : List Bool). valuesOf k x s ≡ valueAt k x s ∷ valuesOf (drop (suc i) l) x s) (sym (drop-cons l i false h))
       (values-cons (getD l i false) (drop (suc i) l) x s)
 
--- two shifts are one
-pub shift-shift : (n k f : ℕ) → n / 2 ^ k / 4 ^ f ≡ n / 2 ^ (k + 2 * f)
-shift-shift n k f = ap (λ (x : ℕ). n / 2 ^ k / x) (pow-mul 2 2 f) ∙ shr-shr n k (2 * f)
-
 -- p is a message's highest bit
 pub parity-bit : (π : Projection) (n : ℕ) → bit (messageBits π - 1) n ≡ messageOf π n .parity
 parity-bit π n =
     let e : messageBits π - 1 ≡ 2 * count (π .free) + topBits π = omega arith in
     ap (λ (k : ℕ). bit k n) e
-
--- a bit is the lowest of a quotient
-bit-at : (k n : ℕ) → bit 0 (n / 2 ^ k) ≡ bit k n
-bit-at k n = ap (λ (x : ℕ). eqb (x % 2) 1) (div-one (n / 2 ^ k))
 
 -- one column more is stored
 pub stored-more : (a : List ℕ) (i v : ℕ) → i < length a →

@@ -24,9 +24,9 @@ use Rattle.codes.specs.Projection.{Projection, size, width}
 use Rattle.codes.specs.Word.{word, _⊞_, syndrome, allParity, topRow, distance}
 use Rattle.codes.specs.Search.{inverted, lacks}
 use Rattle.codes.proofs.Vectors.{addV-assoc, addV-comm, scale-add}
-use Rattle.codes.proofs.Digits.{columns-fit, length-digits, place-pos, digits-remainder}
-use Rattle.codes.proofs.Words.{parity-first, parity-rest, parity-cons, count-cons}
-use Rattle.codes.proofs.Sums.{pow-mul, columns-xor}
+use Rattle.codes.proofs.Digits.{columns-fit, place-pos, digits-remainder, pow-mul}
+use Rattle.codes.proofs.Words.{length-word, parity-first, parity-rest, parity-cons, count-cons}
+use Rattle.codes.proofs.Sums.{columns-xor}
 
 -- the column of no ones
 abbrev pub blank : Column
@@ -169,7 +169,7 @@ word-inverted π x j q h l =
     let i = size π - 1 - j in
     columns-xor (size π) x (q * 2 ^ (4 * i))
     ∙ ap (λ (n : ℕ). word π x ⊞ word π (q * n)) (sym (pow-mul 2 4 i))
-    ∙ sum-shifted (size π) j i q (word π x) (length-digits columns (size π) x) (omega arith) l
+    ∙ sum-shifted (size π) j i q (word π x) (length-word π x) (omega arith) l
 
 pub inverted-fits : (π : Projection) (x j q : ℕ) → x < 2 ^ width π → j < size π → q < 16 → inverted π x j q < 2 ^ width π
 inverted-fits π x j q hx h l =

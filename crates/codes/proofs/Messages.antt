@@ -7,10 +7,10 @@ use mathlib.Core.Path.{_≡_, sym, ap, ap₂, _∙_, subst}
 use mathlib.Core.Bool.{Bool, true}
 use mathlib.Core.List.{List}
 use Prim.Native.Nat.{ℕ, _+_, _*_, _/_, _%_, _^_, _≤_, _<_}
-use native.Mathlib.Nat.{mod-eq-of-lt, div-add-mod', div-div-eq-div-mul, mul-comm, lt-of-lt-of-le}
+use native.Mathlib.Nat.{add-comm, mod-eq-of-lt, div-add-mod', lt-of-lt-of-le}
 use native.Mathlib.Omega.{arith}
 use lib.Arith.{digits-lt, digits-div, digits-mod, mod-mul}
-use lib.Dec.{eqb, lit<}
+use lib.Dec.{lit<}
 use lib.ListN.{length}
 use lib.Pow.{pow-add, pow-mono, shr-lt}
 use Rattle.symbols.specs.Symbol.{bit}
@@ -20,8 +20,7 @@ use Rattle.codes.specs.Projection.{Projection, count, size, width, topBi
 use Rattle.codes.specs.Word.{word, wordNumber, isCodeword}
 use Rattle.codes.specs.Message.{Message, messageOf, messageNumber, messageIn, codewordOf, encode, decode}
 use Rattle.codes.proofs.Digits.{bits-fit, symbols-fit, columns-fit, length-digits, place-pos, number-lt}
-use Rattle.codes.proofs.Digits.{number-digits, digits-remainder, digits-again, number-again}
-use Rattle.codes.proofs.Sums.{pow-mul}
+use Rattle.codes.proofs.Digits.{number-digits, digits-remainder, digits-again, number-again, pow-mul, shift-shift, bit-at}
 use Rattle.codes.proofs.Words.{Codeword, codeword-parity, is-codeword, length-word}
 use Rattle.codes.proofs.Placing.{Systematic}
 use Rattle.codes.proofs.Encoding.{Sized, length-codeword, message-codeword, message-of-codeword, sized, codeword-of-message}
@@ -34,23 +33,16 @@ module _ (π : Projection) where
   abbrev K : ℕ
   K = topBits π
 
-  fours : 4 ^ count (π .free) ≡ 2 ^ (2 * count (π .free))
-  fours = pow-mul 2 2 F
-
   message-sized : (n : ℕ) → Sized π (messageOf π n)
   message-sized n = record { values = length-digits symbols F (n / 2 ^ K); tops = length-digits bits K n }
 
   -- p is the bit above the values
-  high-bit : (n : ℕ) → bit (2 * count (π .free) + topBits π) n ≡ bit 0 (n / 2 ^ topBits π / 4 ^ count (π .free))
-  high-bit n =
-      let e : n / 2 ^ (2 * F + K) ≡ n / 2 ^ K / 4 ^ F / 1 =
-      ap (λ (x : ℕ). n / x) (pow-add 2 (2 * F) K ∙ mul-comm (2 ^ (2 * F)) (2 ^ K)) ∙ sym (div-div-eq-div-mul n (2 ^ K) (2 ^ (2 * F)))
-      ∙ ap (λ (x : ℕ). n / 2 ^ K / x) (sym fours) ∙ omega arith in
-      ap (λ (x : ℕ). eqb (x % 2) 1) e
+  high-bit : (n : ℕ) → messageOf π n .parity ≡ bit 0 (n / 2 ^ topBits π / 4 ^ count (π .free))
+  high-bit n = ap (λ (k : ℕ). bit k n) (add-comm (2 * F) K) ∙ sym (bit-at (K + 2 * F) n) ∙ ap (bit 0) (sym (shift-shift n K F))
 
   -- p and the values together
   twice-fours : 2 ^ (1 + 2 * count (π .free)) ≡ 2 * 4 ^ count (π .free)
-  twice-fours = pow-add 2 1 (2 * F) ∙ ap (λ (x : ℕ). 2 * x) (sym fours)
+  twice-fours = pow-add 2 1 (2 * F) ∙ ap (λ (x : ℕ). 2 * x) (sym (pow-mul 2 2 F))
 
   -- a message's number, and the message of a number
   pub message-number : (n : ℕ) → n < 2 ^ messageBits π → messageNumber π (messageOf π n) ≡ n
@@ -108,8 +100,7 @@ word-below cs h =
 
 -- two words with the same columns are one
 pub word-injective : (π : Projection) (x y : ℕ) → x < 2 ^ width π → y < 2 ^ width π → word π x ≡ word π y → x ≡ y
-word-injective π x y hx hy e =
-    sym (number-word π x hx) ∙ ap wordNumber e ∙ number-word π y hy
+word-injective π x y hx hy e = sym (number-word π x hx) ∙ ap wordNumber e ∙ number-word π y hy
 
 module _ (π : Projection) (sys : Systematic π) where
   -- a message's codeword has its columns, fits, is a codeword, and says the message again

@@ -23,11 +23,11 @@ use Rattle.codes.specs.Digits.{columns, numberOf}
 use Rattle.codes.specs.Projection.{Projection, width}
 use Rattle.codes.specs.Word.{word, _⊞_, isCodeword, weightOf, distance}
 use Rattle.codes.specs.Mending.{outsideIn, outside, wrong, ones}
-use Rattle.codes.proofs.Digits.{columns-fit, number-lt}
+use Rattle.codes.proofs.Digits.{columns-fit, number-lt, pow-mul}
 use Rattle.codes.proofs.Words.{length-word, same-length, codeword-parity}
 use Rattle.codes.proofs.Distance.{Apart, close-same}
 use Rattle.codes.proofs.Messages.{number-word, word-injective}
-use Rattle.codes.proofs.Sums.{pow-mul, zip, orIn, word-xor, word-or}
+use Rattle.codes.proofs.Sums.{zip, orIn, word-xor, word-or}
 
 -- two words differ at most in the marked positions and in those, unmarked, where one of them differs from a third: a bit, a column, a word
 between-bit : (a b w m : Bool) → one (a ⊻ b) ≤ one ((a ⊻ w) && not m) + one ((b ⊻ w) && not m) + one m

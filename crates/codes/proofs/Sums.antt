@@ -6,10 +6,9 @@ use mathlib.Core.Path.{_≡_, refl, sym, ap, ap₂, _∙_}
 use mathlib.Core.Bool.{_||_, Bool-discrete}
 use mathlib.Core.List.{List, [], _∷_}
 use Prim.Native.Nat.{ℕ, zero, suc, _*_, _/_, _%_, _^_, _<_}
-use native.Mathlib.Nat.{mod-lt, mul-zero, mul-suc, zero-div, pow-zero, pow-suc}
+use native.Mathlib.Nat.{mod-lt, zero-div}
 use lib.Bits.{bitXor, bitOr, xor-shr, xor-mod, or-shr, or-mod}
 use lib.Dec.{T}
-use lib.Pow.{pow-add}
 use Rattle.symbols.specs.Symbol.{Symbol-discrete, add, symbolOf}
 use Rattle.symbols.specs.Column.{Column, column, Column-discrete, _⊕_}
 use Rattle.symbols.proofs.Every.{below, at-below, passes, passed}
@@ -17,7 +16,7 @@ use Rattle.codes.specs.Digits.{Digit, symbols, columns, digits}
 use Rattle.codes.specs.Vector.{zeros, addV}
 use Rattle.codes.specs.Projection.{Projection, size}
 use Rattle.codes.specs.Word.{word, _⊞_}
-use Rattle.codes.proofs.Digits.{Fit, symbols-fit, columns-fit}
+use Rattle.codes.proofs.Digits.{Fit, symbols-fit, columns-fit, pow-mul}
 
 -- an operation on numbers that goes bit by bit
 record Bitwise (op : ℕ → ℕ → ℕ) : Type 0 where
@@ -35,14 +34,6 @@ abbrev pub zip : {A : Type 0} → (A → A → A) → List A → List A → List
 zip f [] ys = []
 zip f (x ∷ xs) [] = []
 zip f (x ∷ xs) (y ∷ ys) = f x y ∷ zip f xs ys
-
--- a power of a power
-pub pow-mul : (a m n : ℕ) → (a ^ m) ^ n ≡ a ^ (m * n)
-pow-mul a m zero = pow-zero (a ^ m) ∙ sym (ap (λ (x : ℕ). a ^ x) (mul-zero m) ∙ pow-zero a)
-pow-mul a m (suc n) =
-    pow-suc (a ^ m) n
-    ∙ ap (λ (x : ℕ). x * a ^ m) (pow-mul a m n)
-    ∙ sym (ap (λ (x : ℕ). a ^ x) (mul-suc m n) ∙ pow-add a (m * n) m)
 
 -- digits of w bits, on which `f` does what `op` does to their numbers: a test of all pairs of digits
 module _ {A : Type 0} (d : Digit A) (fit : Fit d) (w : ℕ) (power : d .base ≡ 2 ^ w) (same : Discrete A) (op : ℕ → ℕ → ℕ) (bitwise : Bitwise op)

@@ -12,9 +12,9 @@ use Rattle.symbols.specs.Symbol.{symbolOf}
 use Rattle.symbols.proofs.Numbers.{symbol-mod}
 use Rattle.codes.specs.Projection.{size, count, topBits}
 use Rattle.codes.specs.Codes.{projection}
-use Rattle.codes.proofs.Sums.{pow-mul}
+use Rattle.codes.proofs.Digits.{pow-mul, shift-shift}
 use Rattle.codes.proofs.Codes.{size-le, systematic}
-use Rattle.codes.proofs.Drafts.{behind, value-from, shift-shift}
+use Rattle.codes.proofs.Drafts.{behind, value-from}
 use Rattle.codes.proofs.message.value_at.Statement.{statement}
 use Rattle.codes.proofs.message.value_at.Tie as tie
 
