@@ -14,7 +14,7 @@ use borrow.Author.Tests.{eq-eqb, ne-eqb}
 use lib.ListN.{length, getD, length-map}
 use Rattle.symbols.specs.Symbol.{_⊻_, Symbol, isZero, symbolOf}
 use Rattle.symbols.specs.Column.{Column, value, parity, one, weight, _⊕_}
-use Rattle.symbols.proofs.Every.{columns as all-columns, _⊗_, below, at-below, and-left, and-right}
+use Rattle.symbols.proofs.Every.{columns as all-columns, _⊗_, law-le, below, at-below, and-left, and-right}
 use Rattle.codes.specs.Digits.{symbols, digits, numberOf}
 use Rattle.codes.specs.Vector.{addV, scale, isZeroV}
 use Rattle.codes.specs.Projection.{Projection, size}
@@ -29,7 +29,7 @@ use Rattle.codes.proofs.Distance.{isLive, live, onlyZeros, only-zeros, 
 lacks-weight : (p : Bool) (x y : Column) → parity y ≡ p → one (p ⊻ parity x) ≤ weight (x ⊕ y)
 lacks-weight p x y e =
     subst (λ (q : Bool). one (q ⊻ parity x) ≤ weight (x ⊕ y)) e
-    (leb→le _ _ ((all-columns ⊗ all-columns) .at (λ (x, y). leb (one (parity y ⊻ parity x)) (weight (x ⊕ y))) tt (x, y)))
+    (law-le (all-columns ⊗ all-columns) (λ (x, y). one (parity y ⊻ parity x)) (λ (x, y). weight (x ⊕ y)) tt (x, y))
 
 pub lacks-distance : (p : Bool) (f c : List Column) → length f ≡ length c → allParity p c ≡ true → lacks p f ≤ distance f c
 lacks-distance p [] c e t = omega arith
@@ -73,8 +73,7 @@ lacks-none p (c ∷ cs) e =
 -- each live column has a one
 live-weight : (cs : List Column) → live (map value cs) ≤ weightOf cs
 live-weight [] = omega arith
-live-weight (c ∷ cs) =
-    omega (arith, leb→le (isLive (value c)) (weight c) (all-columns .at (λ c. leb (isLive (value c)) (weight c)) tt c), live-weight cs)
+live-weight (c ∷ cs) = omega (arith, law-le all-columns (λ c. isLive (value c)) weight tt c, live-weight cs)
 
 -- f is a word with syndrome s, which no choice of at most l live values has, and c one with syndrome zero
 module _ (π : Projection) (l : ℕ) (s : List Symbol) (test : T (onlyZeros (π .matrix) l s false)) (f c : List Column)

@@ -81,7 +81,6 @@ module _ {A : Type 0} (d : Digit A) (fit : Fit d) where
   digits-remainder zero n = refl
   digits-remainder (suc k) n =
       let q = n / d .base ^ k % d .base in
-      let low = n % d .base ^ k in
       let small = mod-lt n (place-pos k) in
       let e = high-digit k n in
       ap₂ _∷_

@@ -13,7 +13,7 @@ use lib.Dec.{T, leb, eqb}
 use lib.ListN.{length, length-map}
 use Rattle.symbols.specs.Symbol.{_⊻_, Symbol, isZero}
 use Rattle.symbols.specs.Column.{Column, Column-discrete, value, top, one, weight, _⊕_}
-use Rattle.symbols.proofs.Every.{columns, symbols, _⊗_, implies, implied, passes, passed}
+use Rattle.symbols.proofs.Every.{columns, symbols, _⊗_, implies, law-where}
 use Rattle.symbols.proofs.Columns.{odd-weight, even-weight, flat-weight}
 use Rattle.codes.specs.Vector.{zeros, addV, scale, isZeroV}
 use Rattle.codes.specs.Projection.{Projection, size, count}
@@ -112,9 +112,8 @@ light π a false cs e k h = omega (arith, even-light π a cs e (k .zero) (k .par
 -- columns, and words of one length, that differ nowhere are equal
 weight-zero-same : (c d : Column) → weight (c ⊕ d) ≡ 0 → c ≡ d
 weight-zero-same c d e =
-    passed (Column-discrete Bool-discrete c d)
-    (implied (columns ⊗ columns) (λ (c, d). eqb (weight (c ⊕ d)) 0) (λ (c, d). passes (Column-discrete Bool-discrete c d)) tt (c, d)
-    (eq-eqb (weight (c ⊕ d)) 0 e))
+    law-where (columns ⊗ columns) (Column-discrete Bool-discrete) (λ (c, d). eqb (weight (c ⊕ d)) 0) (λ (c, d). c) (λ (c, d). d) tt (c, d)
+    (eq-eqb (weight (c ⊕ d)) 0 e)
 
 same-word : (a b : List Column) → length a ≡ length b → distance a b ≡ 0 → a ≡ b
 same-word [] [] e z = refl

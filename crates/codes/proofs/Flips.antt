@@ -10,12 +10,12 @@ use Prim.Native.Nat.{ℕ, zero, suc, _+_, _-_, _*_, _/_, _^_, _≤_, _<_}
 use native.Mathlib.Nat.{lt-of-lt-of-le, div-eq-of-lt, zero-div, mul-div-cancel, mul-mod-left, mul-lt-mul-of-pos-right, pow-succ', pow-le-pow-right}
 use native.Mathlib.Omega.{arith}
 use lib.Bits.{xor-lt}
-use lib.Dec.{leb, leb→le, ltb, ltb→lt, eqb, eqb→eq, lit<}
+use lib.Dec.{lit<}
 use lib.ListN.{length, getD, take}
 use lib.Pow.{pow-mono, shl-lt}
 use Rattle.symbols.specs.Symbol.{_⊻_, Symbol}
 use Rattle.symbols.specs.Column.{Column, column, Column-discrete, value, parity, top, one, weight, _⊕_, columnOf}
-use Rattle.symbols.proofs.Every.{columns as all-columns, _⊗_, law, implied}
+use Rattle.symbols.proofs.Every.{columns as all-columns, _⊗_, law, law-le, law-where, number-discrete}
 use Rattle.symbols.proofs.Symbols.{xor-assoc, xor-comm, xor-last}
 use Rattle.symbols.proofs.Columns.{value-add, parity-add, top-add}
 use Rattle.codes.specs.Digits.{columns, digits}
@@ -102,8 +102,7 @@ distance-invert (suc j) q (x ∷ xs) (y ∷ ys) e h = omega (arith, distance-inv
 -- a column, and a word, gets nearer by no more than the bits that are inverted
 column-nearer-by : (x q y : Column) → weight (x ⊕ y) ≤ weight (x ⊕ q ⊕ y) + weight q
 column-nearer-by x q y =
-    leb→le (weight (x ⊕ y)) (weight (x ⊕ q ⊕ y) + weight q)
-    ((all-columns ⊗ all-columns ⊗ all-columns) .at (λ (x, (q, y)). leb (weight (x ⊕ y)) (weight (x ⊕ q ⊕ y) + weight q)) tt (x, (q, y)))
+    law-le (all-columns ⊗ all-columns ⊗ all-columns) (λ (x, (q, y)). weight (x ⊕ y)) (λ (x, (q, y)). weight (x ⊕ q ⊕ y) + weight q) tt (x, (q, y))
 
 pub nearer-by : (j : ℕ) (q : Column) (f c : List Column) → length f ≡ length c → j < length f →
     distance f c ≤ distance (invert j q f) c + weight q
@@ -121,14 +120,13 @@ oneRow (column false false true d) = 2
 oneRow (column false false false d) = 3
 
 oneRow-lt : (x : Column) → oneRow x < 4
-oneRow-lt x = ltb→lt (oneRow x) 4 (all-columns .at (λ x. ltb (oneRow x) 4) tt x)
+oneRow-lt x = law-le all-columns (λ x. suc (oneRow x)) (λ x. 4) tt x
 
 -- with that row of their difference inverted, columns of different parity, and their words, are one position nearer
 row-nearer : (x y : Column) → parity x ⊻ parity y ≡ true → weight (x ⊕ rowColumn (oneRow (x ⊕ y)) ⊕ y) + 1 ≡ weight (x ⊕ y)
 row-nearer x y e =
-    eqb→eq (weight (x ⊕ rowColumn (oneRow (x ⊕ y)) ⊕ y) + 1) (weight (x ⊕ y))
-    (implied (all-columns ⊗ all-columns) (λ (x, y). parity x ⊻ parity y)
-    (λ (x, y). eqb (weight (x ⊕ rowColumn (oneRow (x ⊕ y)) ⊕ y) + 1) (weight (x ⊕ y))) tt (x, y) e)
+    law-where (all-columns ⊗ all-columns) number-discrete (λ (x, y). parity x ⊻ parity y)
+    (λ (x, y). weight (x ⊕ rowColumn (oneRow (x ⊕ y)) ⊕ y) + 1) (λ (x, y). weight (x ⊕ y)) tt (x, y) e
 
 pub nearer : (j : ℕ) (f c : List Column) → length f ≡ length c → j < length f →
     parity (getD f j blank) ⊻ parity (getD c j blank) ≡ true →

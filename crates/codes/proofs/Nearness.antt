@@ -13,11 +13,10 @@ use native.Mathlib.Omega.{arith}
 use lib.Bits.{bitXor, bitOr}
 use lib.Count.{ones-cat}
 use lib.Count as count
-use lib.Dec.{leb, leb→le, eqb, eqb→eq}
 use lib.ListN.{length}
 use Rattle.symbols.specs.Symbol.{_⊻_}
 use Rattle.symbols.specs.Column.{Column, column, one, weight, _⊕_, columnOf, columnNumber}
-use Rattle.symbols.proofs.Every.{bits, columns as all-columns, _⊗_}
+use Rattle.symbols.proofs.Every.{bits, columns as all-columns, _⊗_, law, law-le, number-discrete}
 use Rattle.symbols.proofs.Columns.{weight-le}
 use Rattle.codes.specs.Digits.{columns, numberOf}
 use Rattle.codes.specs.Projection.{Projection, width}
@@ -32,9 +31,8 @@ use Rattle.codes.proofs.Sums.{zip, orIn, word-xor, word-or}
 -- two words differ at most in the marked positions and in those, unmarked, where one of them differs from a third: a bit, a column, a word
 between-bit : (a b w m : Bool) → one (a ⊻ b) ≤ one ((a ⊻ w) && not m) + one ((b ⊻ w) && not m) + one m
 between-bit a b w m =
-    leb→le _ _
-    ((bits ⊗ bits ⊗ bits ⊗ bits) .at (λ (a, (b, (w, m))). leb (one (a ⊻ b)) (one ((a ⊻ w) && not m) + one ((b ⊻ w) && not m) + one m)) tt
-    (a, (b, (w, m))))
+    law-le (bits ⊗ bits ⊗ bits ⊗ bits) (λ (a, (b, (w, m))). one (a ⊻ b))
+    (λ (a, (b, (w, m))). one ((a ⊻ w) && not m) + one ((b ⊻ w) && not m) + one m) tt (a, (b, (w, m)))
 
 between-column : (a b w m : Column) → weight (a ⊕ b) ≤ outsideIn (a ⊕ w) m + outsideIn (b ⊕ w) m + weight m
 between-column (column a b c d) (column a′ b′ c′ d′) (column w x y z) (column k l m n) =
@@ -66,9 +64,8 @@ one-codeword π far w m x y hx hy kx ky h =
 -- the word w with its marked bits filled with zeros, and with ones: the distances from c
 filled-bit : (c w m : Bool) → one ((w || m) ⊻ m ⊻ c) + one ((w || m) ⊻ c) ≡ 2 * one ((c ⊻ w) && not m) + one m
 filled-bit c w m =
-    eqb→eq _ _
-    ((bits ⊗ bits ⊗ bits) .at (λ (c, (w, m)). eqb (one ((w || m) ⊻ m ⊻ c) + one ((w || m) ⊻ c)) (2 * one ((c ⊻ w) && not m) + one m)) tt
-    (c, (w, m)))
+    law (bits ⊗ bits ⊗ bits) number-discrete (λ (c, (w, m)). one ((w || m) ⊻ m ⊻ c) + one ((w || m) ⊻ c))
+    (λ (c, (w, m)). 2 * one ((c ⊻ w) && not m) + one m) tt (c, (w, m))
 
 filled-column : (c w m : Column) → weight (orIn w m ⊕ m ⊕ c) + weight (orIn w m ⊕ c) ≡ 2 * outsideIn (c ⊕ w) m + weight m
 filled-column (column a b c d) (column w x y z) (column k l m n) =
@@ -92,7 +89,7 @@ filled π w m x =
 
 -- the ones outside the marks, with the marks set and taken away again
 outside-bit : (a m : Bool) → one ((a || m) ⊻ m) ≡ one (a && not m)
-outside-bit a m = eqb→eq _ _ ((bits ⊗ bits) .at (λ (a, m). eqb (one ((a || m) ⊻ m)) (one (a && not m))) tt (a, m))
+outside-bit a m = law (bits ⊗ bits) number-discrete (λ (a, m). one ((a || m) ⊻ m)) (λ (a, m). one (a && not m)) tt (a, m)
 
 outside-column : (c m : Column) → weight (orIn c m ⊕ m) ≡ outsideIn c m
 outside-column (column a b c d) (column k l m n) = omega (arith, outside-bit a k, outside-bit b l, outside-bit c m, outside-bit d n)
@@ -105,7 +102,7 @@ outside-list (c ∷ cs) (m ∷ ms) = ap₂ _+_ (outside-column c m) (outside-lis
 -- the ones of a number are those of its columns
 count-column : (c : Column) → count.ones (columnNumber c) ≡ weight c
 unfolding count.ones count.onesIn
-count-column c = eqb→eq _ _ (all-columns .at (λ c. eqb (count.ones (columnNumber c)) (weight c)) tt c)
+count-column c = law all-columns number-discrete (λ c. count.ones (columnNumber c)) weight tt c
 
 count-number : (cs : List Column) → count.ones (numberOf columns cs) ≡ weightOf cs
 count-number [] = count-column (columnOf 0)
@@ -119,6 +116,7 @@ count-number (c ∷ cs) =
 pub count-ones : (π : Projection) (x : ℕ) → x < 2 ^ width π → count.ones x ≡ ones π x
 count-ones π x h = ap count.ones (sym (number-word π x h)) ∙ count-number (word π x)
 
+-- the ones that are left are as many as positions are wrong
 pub ones-wrong : (π : Projection) (w m x : ℕ) → ones π (bitXor (bitOr (bitXor x w) m) m) ≡ wrong π w m x
 ones-wrong π w m x =
     ap weightOf (word-xor π (bitOr (bitXor x w) m) m

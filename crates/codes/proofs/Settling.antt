@@ -10,11 +10,11 @@ use Prim.Native.Nat.{ℕ, zero, _+_, _-_, _*_, _/_, _%_, _^_, _≤_, _<_}
 use native.Mathlib.Omega.{arith}
 use borrow.Author.Tests.{not-false}
 use lib.Bits.{xor-self as xor-same}
-use lib.Dec.{T, eqb, eqb→eq}
+use lib.Dec.{T}
 use lib.ListN.{getD}
 use Rattle.symbols.specs.Symbol.{_⊻_, Symbol, isZero, symbolOf}
 use Rattle.symbols.specs.Column.{Column, value, parity, top, one, weight, _⊕_, columnOf, columnNumber, columnWith}
-use Rattle.symbols.proofs.Every.{bits, symbols as all-symbols, columns as all-columns, _⊗_, implied}
+use Rattle.symbols.proofs.Every.{bits, symbols as all-symbols, columns as all-columns, _⊗_, law, law-where, number-discrete}
 use Rattle.symbols.proofs.Symbols.{xor-self, unequal-xor}
 use Rattle.symbols.proofs.Columns.{parity-with, value-with, top-with}
 use Rattle.symbols.proofs.Numbers.{column-of-number, column-number-lt}
@@ -36,13 +36,13 @@ xor-equal a b e = beq-true a b (not-false (Bool·beq a b) (unequal-xor a b ∙ e
 
 distance-self : (f : List Column) → distance f f ≡ 0
 distance-self [] = refl
-distance-self (c ∷ cs) = omega (arith, eqb→eq (weight (c ⊕ c)) 0 (all-columns .at (λ c. eqb (weight (c ⊕ c)) 0) tt c), distance-self cs)
+distance-self (c ∷ cs) = omega (arith, law all-columns number-discrete (λ c. weight (c ⊕ c)) (λ c. 0) tt c, distance-self cs)
 
 -- the even column with a given value, not 0, and top bit has two ones
 pair-weight : (v : Symbol) (t : Bool) → not (isZero v) ≡ true → weight (columnWith false v t) ≡ 2
 unfolding columnWith
 pair-weight v t e =
-    eqb→eq _ _ (implied (all-symbols ⊗ bits) (λ (v, t). not (isZero v)) (λ (v, t). eqb (weight (columnWith false v t)) 2) tt (v, t) e)
+    law-where (all-symbols ⊗ bits) number-discrete (λ (v, t). not (isZero v)) (λ (v, t). weight (columnWith false v t)) (λ (v, t). 2) tt (v, t) e
 
 -- a word x whose columns all have parity p, and the codewords of that parity within k positions
 module _ {π : Projection} {p : Bool} {s : ℕ} {off : Bool} {x : ℕ} (known : Known π p s off x) (par : allParity p (word π x) ≡ true) (k : ℕ) where

@@ -11,7 +11,7 @@ use borrow.Author.Tests.{eqb-true}
 use lib.Dec.{eqb}
 use lib.ListN.{length, length-replicate}
 use Rattle.symbols.specs.Symbol.{Symbol, s0, Symbol-discrete, isZero, add}
-use Rattle.symbols.proofs.Every.{symbols, _⊗_, implied, passed, passes}
+use Rattle.symbols.proofs.Every.{symbols, _⊗_, law-where}
 use Rattle.symbols.proofs.Symbols.{add-assoc, add-comm, add-zero, add-self, add-mul}
 use Rattle.codes.specs.Vector.{zeros, addV, scale, isZeroV}
 use Rattle.codes.specs.Word.{syndrome}
@@ -40,7 +40,7 @@ scale-add a b (x ∷ xs) = ap₂ _∷_ (add-mul a b x) (scale-add a b xs)
 
 -- zero vectors: all of their symbols are 0
 zero-symbol : (x : Symbol) → isZero x ≡ true → x ≡ s0
-zero-symbol x e = passed (Symbol-discrete x s0) (implied symbols isZero (λ x. passes (Symbol-discrete x s0)) tt x e)
+zero-symbol x e = law-where symbols Symbol-discrete isZero (λ x. x) (λ x. s0) tt x e
 
 pub zeros-zero : (n : ℕ) → isZeroV (zeros n) ≡ true
 zeros-zero zero = refl
@@ -76,8 +76,7 @@ zero-sum-same (x ∷ xs) [] e z = absurd (omega arith)
 zero-sum-same (x ∷ xs) (y ∷ ys) e z =
     let both = and-eq-true-iff (isZero (add x y)) (isZeroV (addV xs ys)) .0 z in
     ap₂ _∷_
-    (passed (Symbol-discrete x y)
-    (implied (symbols ⊗ symbols) (λ (x, y). isZero (add x y)) (λ (x, y). passes (Symbol-discrete x y)) tt (x, y) (both .0)))
+    (law-where (symbols ⊗ symbols) Symbol-discrete (λ (x, y). isZero (add x y)) (λ (x, y). x) (λ (x, y). y) tt (x, y) (both .0))
     (zero-sum-same xs ys (omega arith) (both .1))
 
 -- the syndrome of a sum of values

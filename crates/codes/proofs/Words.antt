@@ -10,7 +10,7 @@ use native.Mathlib.Omega.{arith}
 use lib.ListN.{length, length-map}
 use Rattle.symbols.specs.Symbol.{_⊻_}
 use Rattle.symbols.specs.Column.{Column, value, parity, top, one, _⊕_}
-use Rattle.symbols.proofs.Every.{bits, _⊗_, law, implied, passes, passed}
+use Rattle.symbols.proofs.Every.{bits, _⊗_, law, law-where}
 use Rattle.symbols.proofs.Symbols.{xor-swap}
 use Rattle.symbols.proofs.Columns.{value-add, parity-add, top-add}
 use Rattle.codes.specs.Digits.{columns}
@@ -52,7 +52,7 @@ topRow-sum (a ∷ xs) (b ∷ ys) e =
 
 -- two bits that a test finds equal, and the test of equal bits
 pub beq-true : (a b : Bool) → Bool·beq a b ≡ true → a ≡ b
-beq-true a b e = passed (Bool-discrete a b) (implied (bits ⊗ bits) (λ (a, b). Bool·beq a b) (λ (a, b). passes (Bool-discrete a b)) tt (a, b) e)
+beq-true a b e = law-where (bits ⊗ bits) Bool-discrete (λ (a, b). Bool·beq a b) (λ (a, b). a) (λ (a, b). b) tt (a, b) e
 
 eq-beq : (a b : Bool) → a ≡ b → Bool·beq a b ≡ true
 eq-beq a b e = ap (Bool·beq a) (sym e) ∙ law bits Bool-discrete (λ a. Bool·beq a a) (λ a. true) tt a

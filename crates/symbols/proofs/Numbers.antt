@@ -4,13 +4,13 @@
 -- Assumes nothing.
 use mathlib.Core.Path.{_≡_, ap, ap₂, _∙_}
 use mathlib.Core.Bool.{Bool-discrete}
-use Prim.Native.Nat.{ℕ, _+_, _%_, _^_, _<_}
+use Prim.Native.Nat.{ℕ, suc, _+_, _%_, _^_, _<_}
 use native.Mathlib.Nat.{mod-lt}
-use lib.Dec.{T, eqb, eqb→eq, ltb, ltb→lt, lit<}
+use lib.Dec.{T, eqb, eqb→eq, lit<}
 use lib.Pow.{field, mod-mod-pow}
 use Rattle.symbols.specs.Symbol.{Symbol, Symbol-discrete, symbol, symbolNumber, symbolOf, bit}
 use Rattle.symbols.specs.Column.{Column, Column-discrete, columnOf, columnNumber}
-use Rattle.symbols.proofs.Every.{symbols, columns, below, at-below, passes, law, law-below, number-discrete}
+use Rattle.symbols.proofs.Every.{symbols, columns, below, at-below, passes, law, law-le, law-below, number-discrete}
 
 pub symbol-of-number : (s : Symbol) → symbolOf (symbolNumber s) ≡ s
 symbol-of-number s = law symbols Symbol-discrete (λ s. symbolOf (symbolNumber s)) (λ s. s) tt s
@@ -19,7 +19,7 @@ pub number-of-symbol : (n : ℕ) → n < 4 → symbolNumber (symbolOf n) ≡ n
 number-of-symbol n h = law-below 4 number-discrete (λ n. symbolNumber (symbolOf n)) (λ n. n) tt n h
 
 pub symbol-number-lt : (s : Symbol) → symbolNumber s < 4
-symbol-number-lt s = ltb→lt (symbolNumber s) 4 (symbols .at (λ s. ltb (symbolNumber s) 4) tt s)
+symbol-number-lt s = law-le symbols (λ s. suc (symbolNumber s)) (λ s. 4) tt s
 
 pub column-of-number : (c : Column) → columnOf (columnNumber c) ≡ c
 column-of-number c = law columns (Column-discrete Bool-discrete) (λ c. columnOf (columnNumber c)) (λ c. c) tt c
@@ -28,7 +28,7 @@ pub number-of-column : (n : ℕ) → n < 16 → columnNumber (columnOf n) ≡ n
 number-of-column n h = law-below 16 number-discrete (λ n. columnNumber (columnOf n)) (λ n. n) tt n h
 
 pub column-number-lt : (c : Column) → columnNumber c < 16
-column-number-lt c = ltb→lt (columnNumber c) 16 (columns .at (λ c. ltb (columnNumber c) 16) tt c)
+column-number-lt c = law-le columns (λ c. suc (columnNumber c)) (λ c. 16) tt c
 
 -- a number's low bits are those of its remainder
 pub bit-mod : (k j n : ℕ) → bit k (n % 2 ^ (j + 1 + k)) ≡ bit k n
