@@ -58,8 +58,8 @@ packed-lt c {s} = by-length (λ π. s < 256 → s < 4 ^ π .rows) (λ r h. h) (�
 pub systematic : (c : Code) → Systematic (projection c)
 systematic =
     by-length Systematic
-    (λ r. record { shape = refl; marks = refl; some = lit< tt; others = refl; alone = tt })
-    (λ r. record { shape = refl; marks = refl; some = lit< tt; others = refl; alone = tt })
+    (λ r. record { shape = refl; flags = refl; some = lit< tt; others = refl; alone = tt })
+    (λ r. record { shape = refl; flags = refl; some = lit< tt; others = refl; alone = tt })
 
 pub apart : (c : Code) → Apart (projection c)
 apart = by-length Apart (λ r. apart-by-length (nine r) tt (lit≤ tt)) (λ r. apart-by-length (ten r) tt (lit≤ tt))

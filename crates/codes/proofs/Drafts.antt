@@ -87,15 +87,15 @@ module _ (π : Projection) (sys : Systematic π) (n s : ℕ) where
       let k = topBits π - 1 - i in
       let more : topBits π - i ≡ suc k = omega arith in
       let rest : k ≡ topBits π - suc i = omega arith in
-      ap₂ (λ (vs : List Symbol) (j : ℕ). columnsWith p vs (allTops t (digits bits j n))) (values-from (π .free) i (omega (arith, sys .marks)) x s) more
+      ap₂ (λ (vs : List Symbol) (j : ℕ). columnsWith p vs (allTops t (digits bits j n))) (values-from (π .free) i (omega (arith, sys .flags)) x s) more
       ∙ ap₂ (λ (b : Bool) (j : ℕ). draftAt π n s i b ∷ columnsWith p (valuesOf (drop (suc i) (π .free)) x s) (allTops (b ⊻ t) (digits bits j n)))
       (bit-at k n) rest
 
   pub draft-last : (t : Bool) → draftFrom π n s (topBits π) t ≡ draftAt π n s (topBits π) t ∷ []
   draft-last t =
       let none : topBits π - topBits π ≡ 0 = omega arith in
-      let inside : topBits π < length (π .free) = omega (arith, sys .marks, sys .some) in
-      let end : drop (suc (topBits π)) (π .free) ≡ [] = drop-of-length-le (π .free) {i = suc (topBits π)} (omega (arith, sys .marks)) in
+      let inside : topBits π < length (π .free) = omega (arith, sys .flags, sys .some) in
+      let end : drop (suc (topBits π)) (π .free) ≡ [] = drop-of-length-le (π .free) {i = suc (topBits π)} (omega (arith, sys .flags)) in
       ap₂ (λ (vs : List Symbol) (j : ℕ). columnsWith p vs (allTops t (digits bits j n))) (values-from (π .free) (topBits π) inside x s) none
       ∙ ap (λ (l : List Bool). draftAt π n s (topBits π) t ∷ columnsWith p (valuesOf l x s) []) end
 
@@ -107,7 +107,7 @@ module _ (π : Projection) (sys : Systematic π) (n s : ℕ) where
       let ts = messageOf π n .tops in
       let t = wanted (π .rule) p in
       with-values p (place (π .free) fs ds) (allTops t ts)
-      (omega (arith, length-place (π .free) fs ds, sys .marks, sys .some, length-tops t ts, length-digits bits (topBits π) n))
+      (omega (arith, length-place (π .free) fs ds, sys .flags, sys .some, length-tops t ts, length-digits bits (topBits π) n))
       ∙ ap (place (π .free) fs) (digits-zero (π .rows)) ∙ place-zeros (π .free) fs (π .rows)
 
   pub draft-codeword : digits symbols (π .rows) s ≡ syndromeOf π (drafted π n 0) → drafted π n s ≡ codewordOf π (messageOf π n)

@@ -131,7 +131,7 @@ module _ (π : Projection) (sys : Systematic π) where
   pub sized : (cs : List Column) → length cs ≡ size π → Sized π (messageIn π cs)
   sized cs long =
       record {
-        values = length-chosen (π .free) (map value cs) (length-map cs value ∙ long ∙ sym (sys .marks));
+        values = length-chosen (π .free) (map value cs) (length-map cs value ∙ long ∙ sym (sys .flags));
         tops = length-but-last (map top cs) ∙ omega (arith, length-map cs top);
       }
 

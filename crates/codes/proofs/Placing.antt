@@ -92,10 +92,10 @@ same-vector (x ∷ xs) (y ∷ ys) t =
     (same-vector xs ys (and-right (passes (Symbol-discrete x y)) (sameV xs ys) t))
 
 -- what a code has to satisfy for each message to have one codeword and each codeword one message: at least one column, each with a symbol
--- for each row, a mark for each whether it is free, and as many others as there are rows, each with a one in a row of its own, in row order
+-- for each row, a flag for each whether it is free, and as many others as there are rows, each with a one in a row of its own, in row order
 pub record Systematic (π : Projection) : Type 0 where
   pub shape : shaped (π .rows) (π .matrix) ≡ true
-  pub marks : length (π .free) ≡ size π
+  pub flags : length (π .free) ≡ size π
   pub some : 0 < size π
   pub others : count (map not (π .free)) ≡ π .rows
   pub alone : T (vectors (π .rows) (λ ds. sameV (syndrome (π .rows) (π .matrix) (place (π .free) [] ds)) ds))
@@ -118,7 +118,7 @@ module _ (π : Projection) (sys : Systematic π) where
       ∙ ap (addV (S (place (π .free) fs []))) (comes-out ds e)
 
   pub length-values : (fs : List Symbol) → length (allValues π fs) ≡ size π
-  length-values fs = length-place (π .free) fs (S (place (π .free) fs [])) ∙ sys .marks
+  length-values fs = length-place (π .free) fs (S (place (π .free) fs [])) ∙ sys .flags
 
   -- the syndrome of all values is zero
   pub values-zero : (fs : List Symbol) → isZeroV (syndrome (π .rows) (π .matrix) (allValues π fs)) ≡ true
@@ -136,7 +136,7 @@ module _ (π : Projection) (sys : Systematic π) where
       let l = π .free in
       let fs = chosen l vs in
       let ds = chosen (map not l) vs in
-      let el : length vs ≡ length l = e ∙ sym (sys .marks) in
+      let el : length vs ≡ length l = e ∙ sym (sys .flags) in
       let ed : length ds ≡ π .rows = length-chosen (map not l) vs (el ∙ sym (length-map l not)) ∙ sys .others in
       let whole = place-chosen l vs el in
       let zero : isZeroV (addV (S (place l fs [])) ds) ≡ true = ap isZeroV (sym (syndrome-placed fs ds ed) ∙ ap S whole) ∙ z in

@@ -23,7 +23,7 @@ use Rattle.codes.proofs.Encoding.{sized}
 use Rattle.codes.proofs.Messages.{message-below}
 use Rattle.codes.proofs.Walks.{length-held, held-from}
 
--- a column's value joins the number where the column is free
+-- the values of the free columns, one column further
 chosen-next : (n : ℕ) (b : Bool) (l : List Bool) (v : Symbol) (vs : List Symbol) →
     followed symbols n (chosen (b ∷ l) (v ∷ vs)) ≡ followed symbols (cond b (n * 4 + symbolNumber v) n) (chosen l vs)
 chosen-next n true l v vs = followed-next symbols n v (chosen l vs)
@@ -50,19 +50,21 @@ module _ (π : Projection) (sys : Systematic π) (a : List ℕ) (room : size π 
       ap₂ (λ (p : Bool) (k : ℕ). one p * 4 ^ k + numberOf symbols (chosen (π .free) (map value cs)))
       (sym (ap firstParity first)) (sized π sys cs long .values)
 
+  -- a free column's value joins the number, and that of another doesn't
   pub read-value : (i n : ℕ) → i < size π →
       followed symbols n (chosen (drop i (π .free)) (map value (drop i (held π a))))
       ≡ followed symbols (cond (getD (π .free) i false) (n * 4 + symbolNumber (value (columnOf (getD a i 0)))) n)
       (chosen (drop (suc i) (π .free)) (map value (drop (suc i) (held π a))))
   read-value i n h =
       ap₂ (λ (l : List Bool) (xs : List Column). followed symbols n (chosen l (map value xs)))
-      (drop-cons (π .free) i false (omega (arith, sys .marks))) (held-from π a room i h)
+      (drop-cons (π .free) i false (omega (arith, sys .flags))) (held-from π a room i h)
       ∙ chosen-next n (getD (π .free) i false) (drop (suc i) (π .free)) (value (columnOf (getD a i 0))) (map value (drop (suc i) cs))
 
   -- the whole, before the top bits are read
   pub read-tops : followed bits (highPart π (held π a)) (butLast (map top (held π a))) ≡ messageNumber π (messageIn π (held π a))
   read-tops = ap (λ (k : ℕ). highPart π cs * 2 ^ k + numberOf bits (butLast (map top cs))) (sized π sys cs long .tops)
 
+  -- a top bit joins the number
   pub read-top : (i n : ℕ) → suc i < size π →
       followed bits n (drop i (butLast (map top (held π a))))
       ≡ followed bits (n * 2 + one (top (columnOf (getD a i 0)))) (drop (suc i) (butLast (map top (held π a))))
@@ -74,6 +76,7 @@ module _ (π : Projection) (sys : Systematic π) (a : List ℕ) (room : size π 
       ∙ ap top (List·getD-map columnOf (take (size π) a) i 0 ∙ ap columnOf (getD-take (size π) a i 0 (omega arith)))))
       ∙ followed-next bits n (top (columnOf (getD a i 0))) (drop (suc i) (butLast (map top cs)))
 
+  -- the whole, and its high part, are below the code's limit
   pub message-bounded : messageNumber π (messageIn π (held π a)) < 2 ^ messageBits π
   message-bounded = message-below π (messageIn π cs) (sized π sys cs long)
 

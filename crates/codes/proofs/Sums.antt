@@ -5,13 +5,13 @@
 use mathlib.Core.Path.{_≡_, refl, sym, ap, ap₂, _∙_}
 use mathlib.Core.Bool.{_||_, Bool-discrete}
 use mathlib.Core.List.{List, [], _∷_}
-use Prim.Native.Nat.{ℕ, zero, suc, _*_, _/_, _%_, _^_, _<_}
+use Prim.Native.Nat.{ℕ, zero, suc, _*_, _/_, _%_, _^_}
 use native.Mathlib.Nat.{mod-lt, zero-div}
 use lib.Bits.{bitXor, bitOr, xor-shr, xor-mod, or-shr, or-mod}
 use lib.Dec.{T}
 use Rattle.symbols.specs.Symbol.{Symbol-discrete, add, symbolOf}
 use Rattle.symbols.specs.Column.{Column, column, Column-discrete, _⊕_}
-use Rattle.symbols.proofs.Every.{below, at-below, passes, passed}
+use Rattle.symbols.proofs.Every.{below, passes, law-below-both}
 use Rattle.codes.specs.Digits.{Digit, symbols, columns, digits}
 use Rattle.codes.specs.Vector.{zeros, addV}
 use Rattle.codes.specs.Projection.{Projection, size}
@@ -39,17 +39,12 @@ zip f (x ∷ xs) (y ∷ ys) = f x y ∷ zip f xs ys
 module _ {A : Type 0} (d : Digit A) (fit : Fit d) (w : ℕ) (power : d .base ≡ 2 ^ w) (same : Discrete A) (op : ℕ → ℕ → ℕ) (bitwise : Bitwise op)
     (f : A → A → A)
     (test : T (below (d .base) (λ a. below (d .base) (λ b. passes (same (d .lowest (op a b)) (f (d .lowest a) (d .lowest b))))))) where
-  small-digit : (a b : ℕ) → a < d .base → b < d .base → d .lowest (op a b) ≡ f (d .lowest a) (d .lowest b)
-  small-digit a b ha hb =
-      passed (same (d .lowest (op a b)) (f (d .lowest a) (d .lowest b)))
-      (at-below (d .base) (λ b. passes (same (d .lowest (op a b)) (f (d .lowest a) (d .lowest b))))
-      (at-below (d .base) (λ a. below (d .base) (λ b. passes (same (d .lowest (op a b)) (f (d .lowest a) (d .lowest b))))) test a ha) b hb)
-
   lowest-op : (a b : ℕ) → d .lowest (op a b) ≡ f (d .lowest a) (d .lowest b)
   lowest-op a b =
       sym (fit .modulo (op a b))
       ∙ ap (d .lowest) (rw power (bitwise .remainder a b w))
-      ∙ small-digit (a % d .base) (b % d .base) (mod-lt a (fit .pos)) (mod-lt b (fit .pos))
+      ∙ law-below-both (d .base) same (λ a b. d .lowest (op a b)) (λ a b. f (d .lowest a) (d .lowest b)) test
+      (a % d .base) (b % d .base) (mod-lt a (fit .pos)) (mod-lt b (fit .pos))
       ∙ ap₂ f (fit .modulo a) (fit .modulo b)
 
   digits-op : (k a b : ℕ) → digits d k (op a b) ≡ zip f (digits d k a) (digits d k b)

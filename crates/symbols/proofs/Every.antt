@@ -84,7 +84,8 @@ decided m n false e = no (eqb-false m n e)
 abbrev pub number-discrete : Discrete ℕ
 number-discrete m n = decided m n (eqb m n) refl
 
--- two functions that agree at every value, one that is at most another at every value, and two that agree below a bound
+-- two functions that agree at every value, one that is at most another at every value, and two that agree
+-- below a bound, at a number or at two
 pub law : {A B : Type 0} (p : Every A) (d : Discrete B) (f g : A → B) → T (p .all (λ a. passes (d (f a) (g a)))) → (a : A) → f a ≡ g a
 law p d f g t a = passed (d (f a) (g a)) (p .at (λ a. passes (d (f a) (g a))) t a)
 
@@ -93,6 +94,11 @@ law-le p f g t a = leb→le (f a) (g a) (p .at (λ a. leb (f a) (g a)) t a)
 
 pub law-below : {B : Type 0} (n : ℕ) (d : Discrete B) (f g : ℕ → B) → T (below n (λ k. passes (d (f k) (g k)))) → (k : ℕ) → k < n → f k ≡ g k
 law-below n d f g t k h = passed (d (f k) (g k)) (at-below n (λ k. passes (d (f k) (g k))) t k h)
+
+pub law-below-both : {B : Type 0} (n : ℕ) (d : Discrete B) (f g : ℕ → ℕ → B) →
+    T (below n (λ j. below n (λ k. passes (d (f j k) (g j k))))) → (j k : ℕ) → j < n → k < n → f j k ≡ g j k
+law-below-both n d f g t j k hj hk =
+    law-below n d (f j) (g j) (at-below n (λ j. below n (λ k. passes (d (f j k) (g j k)))) t j hj) k hk
 
 -- where a test that is an implication passes; one that passes at every value of a type; two functions that agree where a test passes
 pub implies : (a b : Bool) → T (not a || b) → a ≡ true → T b

@@ -6,11 +6,11 @@ use mathlib.Core.Path.{_≡_, ap, ap₂, _∙_}
 use mathlib.Core.Bool.{Bool-discrete}
 use Prim.Native.Nat.{ℕ, suc, _+_, _%_, _^_, _<_}
 use native.Mathlib.Nat.{mod-lt}
-use lib.Dec.{T, eqb, eqb→eq, lit<}
+use lib.Dec.{T, eqb, lit<}
 use lib.Pow.{field, mod-mod-pow}
 use Rattle.symbols.specs.Symbol.{Symbol, Symbol-discrete, symbol, symbolNumber, symbolOf, bit}
 use Rattle.symbols.specs.Column.{Column, Column-discrete, columnOf, columnNumber}
-use Rattle.symbols.proofs.Every.{symbols, columns, below, at-below, passes, law, law-le, law-below, number-discrete}
+use Rattle.symbols.proofs.Every.{symbols, columns, below, passes, law, law-le, law-below, law-below-both, number-discrete}
 
 pub symbol-of-number : (s : Symbol) → symbolOf (symbolNumber s) ≡ s
 symbol-of-number s = law symbols Symbol-discrete (λ s. symbolOf (symbolNumber s)) (λ s. s) tt s
@@ -49,11 +49,9 @@ pub by-column : {B : Type 0} (d : Discrete B) (f : ℕ → ℕ → B) (w : ℕ) 
 by-column d f w g t n = law-below 16 d (f w) (λ k. g (columnOf k)) t (n % 16) (mod-lt n (lit< tt)) ∙ ap g (column-mod n)
 
 pub by-symbols : (f : ℕ → ℕ → ℕ → ℕ) (w : ℕ) (g : Symbol → Symbol → Symbol) →
-    T (below 4 (λ x. below 4 (λ y. eqb (f w x y) (symbolNumber (g (symbolOf x) (symbolOf y)))))) →
+    T (below 4 (λ x. below 4 (λ y. passes (number-discrete (f w x y) (symbolNumber (g (symbolOf x) (symbolOf y))))))) →
     (x y : ℕ) → f w (x % 4) (y % 4) ≡ symbolNumber (g (symbolOf x) (symbolOf y))
 by-symbols f w g t x y =
-    eqb→eq _ _
-    (at-below 4 (λ y. eqb (f w (x % 4) y) (symbolNumber (g (symbolOf (x % 4)) (symbolOf y))))
-    (at-below 4 (λ x. below 4 (λ y. eqb (f w x y) (symbolNumber (g (symbolOf x) (symbolOf y))))) t (x % 4) (mod-lt x (lit< tt)))
-    (y % 4) (mod-lt y (lit< tt)))
+    law-below-both 4 number-discrete (f w) (λ x y. symbolNumber (g (symbolOf x) (symbolOf y))) t
+    (x % 4) (y % 4) (mod-lt x (lit< tt)) (mod-lt y (lit< tt))
     ∙ ap₂ (λ (a b : Symbol). symbolNumber (g a b)) (symbol-mod x) (symbol-mod y)

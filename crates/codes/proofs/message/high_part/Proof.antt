@@ -104,7 +104,7 @@ returns c =
     let l = c .before .before .loop in
     sym (followed-none symbols (l .number))
     ∙ ap (λ (x : List Bool). followed symbols (l .number) (chosen x (map value (drop (l .i) (held π a)))))
-    (sym (drop-of-length-le (π .free) {i = l .i} (omega (arith, c .before .columns .ensures, systematic code .marks))))
+    (sym (drop-of-length-le (π .free) {i = l .i} (omega (arith, c .before .columns .ensures, systematic code .flags))))
     ∙ l .inv .1
 
 pub high-part-spec : {M : Type 1} → statement M

@@ -24,7 +24,7 @@ parted : (s : tie.Start) →
     ≡ size (projection (s .args .code)) - suc (s .args .column)
 parted s =
     behind (projection (s .args .code) .free) (s .args .column)
-    ∙ ap (λ (n : ℕ). n - suc (s .args .column)) (systematic (s .args .code) .marks)
+    ∙ ap (λ (n : ℕ). n - suc (s .args .column)) (systematic (s .args .code) .flags)
 
 columns-requires : tie.Need-columns-requires
 columns-requires c κs = search needs
@@ -65,7 +65,7 @@ returns c =
     symbol-mod (a .message / 2 ^ (columns .result - 1 + 2 * free .result))
     ∙ ap₂ (λ (k f : ℕ). symbolOf (a .message / 2 ^ (k + 2 * f))) last (free .ensures)
     ∙ ap symbolOf (sym (shift-shift (a .message) (topBits π) (count (drop (suc (a .column)) (π .free)))))
-    ∙ sym (value-from (π .free) (a .column) (omega (arith, s .pre, systematic (a .code) .marks)) (a .message / 2 ^ topBits π) (a .syndrome)
+    ∙ sym (value-from (π .free) (a .column) (omega (arith, s .pre, systematic (a .code) .flags)) (a .message / 2 ^ topBits π) (a .syndrome)
     (sym (c .before .is-free .ensures) ∙ c .if1 .taken))
 
 sub-others : tie.Need-sub-others
@@ -95,7 +95,7 @@ returns-2 c =
     symbol-mod (a .syndrome / 2 ^ (2 * (columns .result - 1 - a .column - free .result)))
     ∙ ap (λ (k : ℕ). symbolOf (a .syndrome / 2 ^ (2 * k))) others
     ∙ ap (λ (x : ℕ). symbolOf (a .syndrome / x)) (sym (pow-mul 2 2 (count (map not (drop (suc (a .column)) (π .free))))))
-    ∙ sym (value-from (π .free) (a .column) (omega (arith, s .pre, systematic (a .code) .marks)) (a .message / 2 ^ topBits π) (a .syndrome)
+    ∙ sym (value-from (π .free) (a .column) (omega (arith, s .pre, systematic (a .code) .flags)) (a .message / 2 ^ topBits π) (a .syndrome)
     (sym (c .before .is-free .ensures) ∙ c .if1 .left))
 
 pub value-at-spec : {M : Type 1} → statement M

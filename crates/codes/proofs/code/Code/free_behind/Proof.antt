@@ -20,7 +20,7 @@ entry k i = count (drop (suc i) (projection k .free))
 returns : tie.Need-returns
 returns c =
     let code = c .before .args .self in
-    sym (ap count (drop-of-length-le (projection code .free) {i = suc (c .before .args .column)} (omega (arith, size-le code, systematic code .marks))))
+    sym (ap count (drop-of-length-le (projection code .free) {i = suc (c .before .args .column)} (omega (arith, size-le code, systematic code .flags))))
 
 mul-result : tie.Need-mul-result
 mul-result c = search needs

@@ -20,7 +20,7 @@ entry k i = getD (projection k .free) i false
 returns : tie.Need-returns
 returns c =
     let code = c .before .args .self in
-    sym (List·getD-eq-default (projection code .free) false {n = c .before .args .column} (omega (arith, size-le code, systematic code .marks)))
+    sym (List·getD-eq-default (projection code .free) false {n = c .before .args .column} (omega (arith, size-le code, systematic code .flags)))
 
 array-read-result : tie.Need-array-read-result
 array-read-result c = search needs
