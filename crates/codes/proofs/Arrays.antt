@@ -28,8 +28,8 @@ pub unpack-step : (l : List ℕ) (j k n : ℕ) → j < length l → map columnOf
 unpack-step l j k n h e =
     ap (λ (x : List ℕ). map columnOf (take (suc k) x)) (drop-set l j (n / 16 ^ k % 16) h) ∙ ap₂ _∷_ (column-mod (n / 16 ^ k)) e
 
-pub next-digit : (k n : ℕ) → n / 16 ^ k / 16 ≡ n / 16 ^ suc k
-next-digit k n = div-div-eq-div-mul n (16 ^ k) 16 ∙ ap (λ (x : ℕ). n / x) (sym (pow-suc 16 k))
+pub next-quotient : (k n : ℕ) → n / 16 ^ k / 16 ≡ n / 16 ^ suc k
+next-quotient k n = div-div-eq-div-mul n (16 ^ k) 16 ∙ ap (λ (x : ℕ). n / x) (sym (pow-suc 16 k))
 
 -- the table of the matrix's columns times each symbol
 length-scaled : (H : List (List Symbol)) → length (scaled H) ≡ 4 * length H

@@ -84,25 +84,25 @@ eight-apart c x y k l differ = go (leb 8 (distance (word (projection c) x) (word
         (close-same π (apart c) (a .0) (b .0) (word π x) (word π y) (length-word π x) (length-word π y) (a .1) (b .1)
         (omega (arith, leb-false 8 (distance (word π x) (word π y)) e)))))
 
--- near as a claim says it, and as mending's laws do
-near-of : (c : Code) (w m x : ℕ) → IsNear c w m x → Near (projection c) w m x
-near-of c w m x n = record { fits = n .0 .0; codeword = n .0 .1; near = n .1 }
+-- near as a claim says it, to near as mending's laws say it, and back
+to-near : (c : Code) (w m x : ℕ) → IsNear c w m x → Near (projection c) w m x
+to-near c w m x n = record { fits = n .0 .0; codeword = n .0 .1; near = n .1 }
 
-of-near : (c : Code) (w m x : ℕ) → Near (projection c) w m x → IsNear c w m x
-of-near c w m x n = ((n .fits, n .codeword), n .near)
+from-near : (c : Code) (w m x : ℕ) → Near (projection c) w m x → IsNear c w m x
+from-near c w m x n = ((n .fits, n .codeword), n .near)
 
 pub one-near : OneNear
-one-near c w m x y a b = mends.one-near (projection c) w m (systematic c) (apart c) x y (near-of c w m x a) (near-of c w m y b)
+one-near c w m x y a b = mends.one-near (projection c) w m (systematic c) (apart c) x y (to-near c w m x a) (to-near c w m y b)
 
 pub eight-is-far : EightIsFar
-eight-is-far c w m x k e y b = mends.eight-none (projection c) w m (systematic c) (apart c) x (k .0) (k .1) e y (near-of c w m y b)
+eight-is-far c w m x k e y b = mends.eight-none (projection c) w m (systematic c) (apart c) x (k .0) (k .1) e y (to-near c w m y b)
 
 pub mends-near : MendsNear
 mends-near c w m hw hm = (gives, λ vs e. only vs (mend (projection c) w m) refl (sym (mending-fits (projection c) w m hw hm) ∙ e))
   where
     gives : (x : ℕ) → IsNear c w m x →
         mending (projection c) w m ≡ accepted (x ∷ decode (projection c) x ∷ wrong (projection c) w m x ∷ ones (projection c) m ∷ [])
-    gives x n = mending-fits (projection c) w m hw hm ∙ ap mendedAnswer (mend-near (projection c) w m (systematic c) (apart c) x (near-of c w m x n))
+    gives x n = mending-fits (projection c) w m hw hm ∙ ap mendedAnswer (mend-near (projection c) w m (systematic c) (apart c) x (to-near c w m x n))
 
     only : (vs : List ℕ) (r : Mended) → mend (projection c) w m ≡ r → mendedAnswer r ≡ accepted vs →
         (x : ℕ) × IsNear c w m x × (vs ≡ x ∷ decode (projection c) x ∷ wrong (projection c) w m x ∷ ones (projection c) m ∷ [])
@@ -126,7 +126,7 @@ refuses-far c w m hw hm = (refuses, only)
     refuses : ((x : ℕ) → IsNear c w m x → ⊥) → mending (projection c) w m ≡ refused 5
     refuses empty =
         mending-fits (projection c) w m hw hm
-        ∙ ap mendedAnswer (mend-none (projection c) w m (systematic c) (apart c) (λ y n. empty y (of-near c w m y n)))
+        ∙ ap mendedAnswer (mend-none (projection c) w m (systematic c) (apart c) (λ y n. empty y (from-near c w m y n)))
 
     only : mending (projection c) w m ≡ refused 5 → (x : ℕ) → IsNear c w m x → ⊥
     only e x n = not-both (mends-near c w m hw hm .0 x n) e

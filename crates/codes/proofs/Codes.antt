@@ -11,11 +11,11 @@ use lib.Dec.{lit<, lit≤}
 use lib.ListN.{getD}
 use types.Run.{OneOf}
 use denote.Enum.Declared.{tagOf}
-use Rattle.codes.proofs.code.Code.{the-type}
 use Rattle.codes.specs.declared.code.Code.{Code}
 use Rattle.codes.specs.declared.code.Code.the-variants.{O36, E36, O40, E40}
 use Rattle.codes.specs.Projection.{Projection, TopRule, ruleO, ruleE, nine, ten, size, width, messageBits}
 use Rattle.codes.specs.Codes.{projection, codes}
+use Rattle.codes.proofs.code.Code.{the-type}
 use Rattle.codes.proofs.Placing.{Systematic}
 use Rattle.codes.proofs.Distance.{Apart, apart-by-length}
 

@@ -149,10 +149,10 @@ module _ (π : Projection) (tabled : Tabled π) (s : ℕ) (small : s < 4 ^ π .r
       }
 
 -- the table of entries holds them in order
-table-is : (n k : ℕ) (f : ℕ → ℕ) → tableFrom n k f ≡ tabulated n k f
-table-is zero k f = refl
-table-is (suc n) k f = ap (λ (l : List ℕ). f k ∷ l) (table-is n (suc k) f)
+table-tabulated : (n k : ℕ) (f : ℕ → ℕ) → tableFrom n k f ≡ tabulated n k f
+table-tabulated zero k f = refl
+table-tabulated (suc n) k f = ap (λ (l : List ℕ). f k ∷ l) (table-tabulated n (suc k) f)
 
 pub entry-at : (π : Projection) (l : List ℕ) (s : ℕ) → l ≡ entryTable π → s < 256 → getD l s 0 ≡ entry π s
 unfolding entryTable
-entry-at π l s e h = ap (λ (l : List ℕ). getD l s 0) (e ∙ table-is 256 0 (entry π)) ∙ table-at 256 (entry π) 0 s h
+entry-at π l s e h = ap (λ (l : List ℕ). getD l s 0) (e ∙ table-tabulated 256 0 (entry π)) ∙ table-at 256 (entry π) 0 s h

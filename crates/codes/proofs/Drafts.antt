@@ -28,8 +28,8 @@ count-both [] = refl
 count-both (true ∷ l) = omega (arith, count-both l)
 count-both (false ∷ l) = omega (arith, count-both l)
 
-pub behind : (l : List Bool) (i : ℕ) → count (drop (suc i) l) + count (map not (drop (suc i) l)) ≡ length l - suc i
-behind l i = count-both (drop (suc i) l) ∙ length-drop (suc i) l
+pub count-behind : (l : List Bool) (i : ℕ) → count (drop (suc i) l) + count (map not (drop (suc i) l)) ≡ length l - suc i
+count-behind l i = count-both (drop (suc i) l) ∙ length-drop (suc i) l
 
 -- the values of some columns, where the free ones have the digits of x and the others those of s
 abbrev pub valuesOf : List Bool → ℕ → ℕ → List Symbol

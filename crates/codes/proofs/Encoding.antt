@@ -51,10 +51,10 @@ xors : List Bool → Bool
 xors [] = false
 xors (b ∷ bs) = b ⊻ xors bs
 
-top-row : (cs : List Column) → topRow cs ≡ xors (map top cs)
+topRow-xors : (cs : List Column) → topRow cs ≡ xors (map top cs)
 unfolding xors
-top-row [] = refl
-top-row (c ∷ cs) = ap (λ (b : Bool). top c ⊻ b) (top-row cs)
+topRow-xors [] = refl
+topRow-xors (c ∷ cs) = ap (λ (b : Bool). top c ⊻ b) (topRow-xors cs)
 
 pub length-tops : (t : Bool) (bs : List Bool) → length (allTops t bs) ≡ suc (length bs)
 length-tops t [] = refl
@@ -116,7 +116,7 @@ module _ (π : Projection) (sys : Systematic π) where
         record {
           zero = ap (λ (vs : List Symbol). isZeroV (syndrome (π .rows) (π .matrix) vs)) values-of ∙ values-zero π sys (m .values);
           parities = with-parity (m .parity) (allValues π (m .values)) tops;
-          tops = top-row (codewordOf π m) ∙ ap xors tops-of ∙ xor-tops (wanted (π .rule) (m .parity)) (m .tops);
+          tops = topRow-xors (codewordOf π m) ∙ ap xors tops-of ∙ xor-tops (wanted (π .rule) (m .parity)) (m .tops);
         }
 
     -- and they say the message again
@@ -142,5 +142,5 @@ module _ (π : Projection) (sys : Systematic π) where
       ap (λ (q : Bool). columnsWith q (allValues π (messageIn π cs .values)) (allTops (wanted (π .rule) q) (messageIn π cs .tops))) ep
       ∙ ap₂ (columnsWith p)
       (values-chosen π sys (map value cs) (length-map cs value ∙ long) (is .zero))
-      (tops-but-last (wanted (π .rule) p) (map top cs) (omega (arith, length-map cs top, sys .some)) (sym (is .tops) ∙ top-row cs))
+      (tops-but-last (wanted (π .rule) p) (map top cs) (omega (arith, length-map cs top, sys .some)) (sym (is .tops) ∙ topRow-xors cs))
       ∙ columns-with p cs (is .parities)

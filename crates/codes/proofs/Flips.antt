@@ -91,7 +91,7 @@ lacks-invert p (suc j) q (c ∷ cs) h e t =
       count-cons (p ⊻ parity c) (map (λ c. p ⊻ parity c) (invert j q cs)),
     )
 
--- how far a word is then from another
+-- its distance from another word changes as that of the column does
 distance-invert : (j : ℕ) (q : Column) (f c : List Column) → length f ≡ length c → j < length f →
     distance (invert j q f) c + weight (getD f j blank ⊕ getD c j blank) ≡ distance f c + weight (getD f j blank ⊕ q ⊕ getD c j blank)
 distance-invert j q [] c e h = absurd (omega arith)

@@ -60,29 +60,29 @@ module _ (π : Projection) where
     abbrev A : ℕ
     A = one (m .parity) * 4 ^ F + numberOf symbols (m .values)
 
-    low : numberOf bits (m .tops) < 2 ^ topBits π
-    low = subst (λ (k : ℕ). numberOf bits (m .tops) < 2 ^ k) (s .tops) (number-lt bits bits-fit (m .tops))
+    tops-lt : numberOf bits (m .tops) < 2 ^ topBits π
+    tops-lt = subst (λ (k : ℕ). numberOf bits (m .tops) < 2 ^ k) (s .tops) (number-lt bits bits-fit (m .tops))
 
-    middle : numberOf symbols (m .values) < 4 ^ count (π .free)
-    middle = subst (λ (k : ℕ). numberOf symbols (m .values) < 4 ^ k) (s .values) (number-lt symbols symbols-fit (m .values))
+    values-lt : numberOf symbols (m .values) < 4 ^ count (π .free)
+    values-lt = subst (λ (k : ℕ). numberOf symbols (m .values) < 4 ^ k) (s .values) (number-lt symbols symbols-fit (m .values))
 
     pub message-below : messageNumber π m < 2 ^ messageBits π
     message-below =
         subst (λ (x : ℕ). messageNumber π m < x) (sym (pow-add 2 (1 + 2 * F) K))
-        (digits-lt (subst (λ (x : ℕ). A < x) (sym twice-fours) (digits-lt (bits-fit .small (m .parity)) middle)) low)
+        (digits-lt (subst (λ (x : ℕ). A < x) (sym twice-fours) (digits-lt (bits-fit .small (m .parity)) values-lt)) tops-lt)
 
     pub number-message : messageOf π (messageNumber π m) ≡ m
     number-message =
-        let high : messageNumber π m / 2 ^ K ≡ A = digits-div A low in
+        let high : messageNumber π m / 2 ^ K ≡ A = digits-div A tops-lt in
         let ep : bit (2 * F + K) (messageNumber π m) ≡ m .parity =
         high-bit (messageNumber π m) ∙ ap (λ (x : ℕ). bit 0 (x / 4 ^ F)) high
-        ∙ ap (bit 0) (digits-div (one (m .parity)) middle) ∙ bits-fit .back (m .parity) in
+        ∙ ap (bit 0) (digits-div (one (m .parity)) values-lt) ∙ bits-fit .back (m .parity) in
         let ev : digits symbols F (messageNumber π m / 2 ^ K) ≡ m .values =
         ap (digits symbols F) high ∙ sym (digits-remainder symbols symbols-fit F A)
-        ∙ ap (digits symbols F) (digits-mod (one (m .parity)) middle) ∙ digits-again symbols symbols-fit F (m .values) (s .values) in
+        ∙ ap (digits symbols F) (digits-mod (one (m .parity)) values-lt) ∙ digits-again symbols symbols-fit F (m .values) (s .values) in
         let et : digits bits K (messageNumber π m) ≡ m .tops =
         sym (digits-remainder bits bits-fit K (messageNumber π m))
-        ∙ ap (digits bits K) (digits-mod A low) ∙ digits-again bits bits-fit K (m .tops) (s .tops) in
+        ∙ ap (digits bits K) (digits-mod A tops-lt) ∙ digits-again bits bits-fit K (m .tops) (s .tops) in
         λ i. record { parity = ep i; values = ev i; tops = et i }
 
   -- a word is a number of m digits in base 16, and the number of its columns

@@ -106,8 +106,8 @@ module _ (π : Projection) (sys : Systematic π) where
   S vs = syndrome (π .rows) (π .matrix) vs
 
   -- what the other columns hold comes out as the syndrome
-  comes-out : (ds : List Symbol) → length ds ≡ π .rows → syndrome (π .rows) (π .matrix) (place (π .free) [] ds) ≡ ds
-  comes-out ds e = same-vector _ _ (at-vector (π .rows) (λ ds. sameV (S (place (π .free) [] ds)) ds) (sys .alone) ds e)
+  syndrome-others : (ds : List Symbol) → length ds ≡ π .rows → syndrome (π .rows) (π .matrix) (place (π .free) [] ds) ≡ ds
+  syndrome-others ds e = same-vector _ _ (at-vector (π .rows) (λ ds. sameV (S (place (π .free) [] ds)) ds) (sys .alone) ds e)
 
   syndrome-placed : (fs ds : List Symbol) → length ds ≡ π .rows →
       syndrome (π .rows) (π .matrix) (place (π .free) fs ds) ≡ addV (syndrome (π .rows) (π .matrix) (place (π .free) fs [])) ds
@@ -115,7 +115,7 @@ module _ (π : Projection) (sys : Systematic π) where
       ap S (sym (place-split (π .free) fs ds))
       ∙ syndrome-add (π .rows) (π .matrix) (place (π .free) fs []) (place (π .free) [] ds)
       (length-place (π .free) fs [] ∙ sym (length-place (π .free) [] ds))
-      ∙ ap (addV (S (place (π .free) fs []))) (comes-out ds e)
+      ∙ ap (addV (S (place (π .free) fs []))) (syndrome-others ds e)
 
   pub length-values : (fs : List Symbol) → length (allValues π fs) ≡ size π
   length-values fs = length-place (π .free) fs (S (place (π .free) fs [])) ∙ sys .flags

@@ -1,11 +1,11 @@
 -- `symbols::column_with` meets its contract: the table of columns is tested at its sixteen entries.
 -- Assumes nothing.
-use borrow.Author.Needs.{needs}
 use mathlib.Core.Path.{_≡_, ap, ap₂, _∙_}
 use mathlib.Core.Bool.{Bool}
 use Prim.Native.Nat.{ℕ, _+_, _*_, _/_, _%_, _^_}
 use native.Mathlib.Nat.{mod-lt}
 use native.Mathlib.Omega.{arith}
+use borrow.Author.Needs.{needs}
 use lib.Dec.{T, lit<}
 use Rattle.symbols.specs.Symbol.{Symbol, symbolOf}
 use Rattle.symbols.specs.Column.{one, columnNumber, columnWith}

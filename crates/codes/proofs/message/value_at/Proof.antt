@@ -14,7 +14,7 @@ use Rattle.codes.specs.Projection.{size, count, topBits}
 use Rattle.codes.specs.Codes.{projection}
 use Rattle.codes.proofs.Digits.{pow-mul, shift-shift}
 use Rattle.codes.proofs.Codes.{size-le, systematic}
-use Rattle.codes.proofs.Drafts.{behind, value-from}
+use Rattle.codes.proofs.Drafts.{count-behind, value-from}
 use Rattle.codes.proofs.message.value_at.Statement.{statement}
 use Rattle.codes.proofs.message.value_at.Tie as tie
 
@@ -23,7 +23,7 @@ parted : (s : tie.Start) →
     count (drop (suc (s .args .column)) (projection (s .args .code) .free)) + count (map not (drop (suc (s .args .column)) (projection (s .args .code) .free)))
     ≡ size (projection (s .args .code)) - suc (s .args .column)
 parted s =
-    behind (projection (s .args .code) .free) (s .args .column)
+    count-behind (projection (s .args .code) .free) (s .args .column)
     ∙ ap (λ (n : ℕ). n - suc (s .args .column)) (systematic (s .args .code) .flags)
 
 columns-requires : tie.Need-columns-requires

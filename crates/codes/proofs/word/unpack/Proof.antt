@@ -12,7 +12,7 @@ use Rattle.symbols.specs.Column.{columnOf}
 use Rattle.codes.specs.Digits.{columns, digits}
 use Rattle.codes.specs.Projection.{size}
 use Rattle.codes.specs.Codes.{projection}
-use Rattle.codes.proofs.Arrays.{unpack-step, next-digit}
+use Rattle.codes.proofs.Arrays.{unpack-step, next-quotient}
 use Rattle.codes.proofs.Codes.{size-le}
 use Rattle.codes.proofs.word.unpack.Statement.{statement}
 use Rattle.codes.proofs.word.unpack.Tie as tie
@@ -62,7 +62,7 @@ loop-again c =
       omega arith,
       omega arith,
       simp length-set (l .inv .2),
-      ap (λ (x : ℕ). x / 16) (l .inv .3) ∙ next-digit k n ∙ ap (λ (j : ℕ). n / 16 ^ j) (sym more),
+      ap (λ (x : ℕ). x / 16) (l .inv .3) ∙ next-quotient k n ∙ ap (λ (j : ℕ). n / 16 ^ j) (sym more),
       ap₂ (λ (j v : ℕ). map columnOf (take j (drop (l .i - 1) (set (l .columns) (l .i - 1) (v % 16))))) more (l .inv .3)
           ∙ unpack-step (l .columns) (l .i - 1) k n (omega arith) (ap (λ (j : ℕ). map columnOf (take k (drop j (l .columns)))) next ∙ l .inv .4)
           ∙ ap (λ (j : ℕ). digits columns j n) (sym more),

@@ -2,10 +2,10 @@
 -- Assumes nothing.
 use mathlib.Core.Path.{_≡_, sym, ap}
 use Prim.Native.Nat.{ℕ, suc}
-use lib.ListN.{getD, drop, drop-of-length-le}
-use Rattle.codes.specs.Projection.{count}
 use native.Mathlib.Omega.{arith}
+use lib.ListN.{getD, drop, drop-of-length-le}
 use borrow.Author.Needs.{needs}
+use Rattle.codes.specs.Projection.{count}
 use Rattle.codes.specs.declared.code.Code.{Code}
 use Rattle.codes.specs.declared.code.Code.the-variants.{O36, O40}
 use Rattle.codes.specs.Codes.{projection}
