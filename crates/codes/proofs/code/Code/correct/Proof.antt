@@ -5,10 +5,11 @@ use mathlib.Core.List.{List, [], _∷_}
 use Prim.Native.Nat.{ℕ, _^_, _≤_, _<_}
 use borrow.Author.Needs.{needs}
 use Rattle.symbols.specs.Column.{Column}
+use Rattle.codes.specs.declared.code.Code.{Code}
 use Rattle.codes.specs.Answer.{accepted, refused}
 use Rattle.codes.specs.Projection.{Projection, width}
 use Rattle.codes.specs.Message.{messageIn, messageNumber, decode}
-use Rattle.codes.specs.Mending.{wrong, ones}
+use Rattle.codes.specs.Mending.{wrong, ones, mend}
 use Rattle.codes.specs.Codes.{projection, mendedAnswer, mending}
 use Rattle.codes.specs.Search.{Near}
 use Rattle.codes.proofs.Codes.{systematic, apart}
@@ -25,6 +26,9 @@ marks-fit e = subst (λ (n : ℕ). e .before .before .before .before .args .mark
 
 -- then the answer where nothing is near, and where a codeword is
 module _ (e : tie.Else2) where
+  abbrev code : Code
+  code = e .before .before .before .before .args .self
+
   abbrev π : Projection
   π = projection (e .before .before .before .before .args .self)
 
@@ -34,15 +38,14 @@ module _ (e : tie.Else2) where
   abbrev m : ℕ
   m = e .before .before .before .before .args .marks
 
-  nothing : ((y : ℕ) → Near π w m y → ⊥) → refused 5 ≡ mending π w m
-  nothing empty =
-      let code = e .before .before .before .before .args .self in
-      sym (mending-fits π w m (word-fits (e .before .before)) (marks-fit e) ∙ ap mendedAnswer (mend-none π w m (systematic code) (apart code) empty))
+  fits : mending π w m ≡ mendedAnswer (mend π w m)
+  fits = mending-fits π w m (word-fits (e .before .before)) (marks-fit e)
 
-  something : (x : ℕ) → Near π w m x → accepted (x ∷ decode π x ∷ wrong π w m x ∷ ones π m ∷ []) ≡ mending π w m
-  something x close =
-      let code = e .before .before .before .before .args .self in
-      sym (mending-fits π w m (word-fits (e .before .before)) (marks-fit e) ∙ ap mendedAnswer (mend-near π w m (systematic code) (apart code) x close))
+  none-answer : ((y : ℕ) → Near π w m y → ⊥) → refused 5 ≡ mending π w m
+  none-answer empty = sym (fits ∙ ap mendedAnswer (mend-none π w m (systematic code) (apart code) empty))
+
+  near-answer : (x : ℕ) → Near π w m x → accepted (x ∷ decode π x ∷ wrong π w m x ∷ ones π m ∷ []) ≡ mending π w m
+  near-answer x close = sym (fits ∙ ap mendedAnswer (mend-near π w m (systematic code) (apart code) x close))
 
 word-limit-requires : tie.Need-word-limit-requires
 word-limit-requires c κs = search needs
@@ -68,13 +71,13 @@ ones-requires c κs = search needs
 returns-3 : tie.Need-returns-3
 returns-3 c =
     let e = c .before .before in
-    nothing e (many-marks (π e) (w e) (m e) (subst (λ (n : ℕ). 7 < n) (c .before .ones .ensures (π e) (marks-fit e)) (c .if3 .taken)))
+    none-answer e (many-marks (π e) (w e) (m e) (subst (λ (n : ℕ). 7 < n) (c .before .ones .ensures (π e) (marks-fit e)) (c .if3 .taken)))
 
 near-requires : tie.Need-near-requires
 near-requires c κs = search needs
 
 returns-4 : tie.Need-returns-4
-returns-4 c = nothing (c .before .before .before .before) (c .before .near .ensures .none (c .if4 .taken))
+returns-4 c = none-answer (c .before .before .before .before) (c .before .near .ensures .none (c .if4 .taken))
 
 unpack-requires : tie.Need-unpack-requires
 unpack-requires c κs = search needs
@@ -96,7 +99,7 @@ returns-5 c =
     c .before .message-in .ensures ∙ ap (λ (cs : List Column). messageNumber (π e) (messageIn (π e) cs)) (c .before .before .unpack .ensures) in
     let count : c .wrong .result ≡ wrong (π e) (w e) (m e) x = c .wrong .ensures (π e) (word-fits (e .before .before)) (marks-fit e) (close .fits) in
     let marks : counted .result ≡ ones (π e) (m e) = counted .ensures (π e) (marks-fit e) in
-    cc (message, count, marks, something e x close)
+    cc (message, count, marks, near-answer e x close)
 
 pub correct-spec : {M : Type 1} → statement M
 correct-spec =
