@@ -1,8 +1,10 @@
--- Words in arrays: a column stored below those that are stored already, and the word that an array holds.
+-- Words and tables in arrays: a column stored in front of those that are stored already, the table of scaled columns, and a table of a function.
+-- The columns of a number are its digits in base 16, stored from the last to the first, so one more is the next quotient's remainder. The
+-- scaled columns of the matrix stand four by four, in the order of the columns and of the symbols.
 -- Assumes nothing.
 use mathlib.Core.Path.{_≡_, refl, sym, ap, ap₂, _∙_}
 use mathlib.Core.List.{List, [], _∷_, _++_, map}
-use Prim.Native.Nat.{ℕ, zero, suc, _+_, _-_, _*_, _/_, _%_, _^_, _≤_, _<_}
+use Prim.Native.Nat.{ℕ, zero, suc, _+_, _*_, _/_, _%_, _^_, _≤_, _<_}
 use native.Mathlib.Nat.{add-zero, zero-add, pow-suc, div-div-eq-div-mul}
 use native.Mathlib.Omega.{arith}
 use lib.ListN.{length, getD, take, drop, set, replicate, List·getD-append}
@@ -15,25 +17,27 @@ use Rattle.codes.specs.Vector.{scale}
 use Rattle.codes.specs.Projection.{Projection, size}
 use Rattle.codes.specs.Walk.{scaled, scaledColumns}
 
-pub drop-set : (l : List ℕ) (j v : ℕ) → j < length l → drop j (set l j v) ≡ v ∷ drop (suc j) l
+-- an array, from the place where an element was stored
+drop-set : (l : List ℕ) (j v : ℕ) → j < length l → drop j (set l j v) ≡ v ∷ drop (suc j) l
 drop-set l j v h =
     drop-cons (set l j v) j 0 (lt-length-set l j v h) ∙ ap₂ _∷_ (getD-set-same l j v 0 h) (drop-set-lt (suc j) l j v (omega arith))
 
--- the columns of a number, stored from the last to the first
+-- the columns of a number, stored from the last to the first: one column more, and what is then left of the number
 pub unpack-step : (l : List ℕ) (j k n : ℕ) → j < length l → map columnOf (take k (drop (suc j) l)) ≡ digits columns k n →
     map columnOf (take (suc k) (drop j (set l j (n / 16 ^ k % 16)))) ≡ digits columns (suc k) n
 unpack-step l j k n h e =
     ap (λ (x : List ℕ). map columnOf (take (suc k) x)) (drop-set l j (n / 16 ^ k % 16) h) ∙ ap₂ _∷_ (column-mod (n / 16 ^ k)) e
 
-pub next-digit : (k n : ℕ) → n / 16 ^ k / 16 ≡ n / 16 ^ suc k
-next-digit k n = div-div-eq-div-mul n (16 ^ k) 16 ∙ ap (λ (x : ℕ). n / x) (sym (pow-suc 16 k))
+pub next-quotient : (k n : ℕ) → n / 16 ^ k / 16 ≡ n / 16 ^ suc k
+next-quotient k n = div-div-eq-div-mul n (16 ^ k) 16 ∙ ap (λ (x : ℕ). n / x) (sym (pow-suc 16 k))
 
 -- the table of the matrix's columns times each symbol
 length-scaled : (H : List (List Symbol)) → length (scaled H) ≡ 4 * length H
 length-scaled [] = refl
 length-scaled (h ∷ hs) = omega (arith, length-scaled hs)
 
-scaled-entry : (H : List (List Symbol)) (i v : ℕ) → i < length H → v < 4 → getD (scaled H) (4 * i + v) 0 ≡ numberOf symbols (scale (symbolOf v) (getD H i []))
+scaled-entry : (H : List (List Symbol)) (i v : ℕ) → i < length H → v < 4 →
+    getD (scaled H) (4 * i + v) 0 ≡ numberOf symbols (scale (symbolOf v) (getD H i []))
 scaled-entry [] i v h l = absurd (omega arith)
 scaled-entry (h ∷ hs) zero v hi hv = first v hv
   where

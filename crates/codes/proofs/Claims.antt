@@ -1,5 +1,7 @@
--- The claims of specs/Claims.antt, each from the law that shows it for every code that is systematic and whose codewords are apart; what is
--- refused has the number of a row of its call's table, or is a mending's 5.
+-- The claims of specs/Claims.antt, each from the law that shows it for every code that is systematic and whose codewords are apart; the
+-- four codes are both. Of the starred words, writing is computed. Mending is not: it gives the codeword that is near by a computed test,
+-- or nothing, since a codeword's sum 2·wrong + marks is computed to be 8. A refusal has the number of a row of its call's table, or is
+-- mending's 5.
 -- Assumes nothing.
 use mathlib.Core.Path.{_≡_, refl, sym, ap, _∙_, subst}
 use mathlib.Core.Bool.{Bool, true, false, not}
@@ -14,18 +16,17 @@ use Rattle.symbols.specs.Column.{columnWith}
 use Rattle.codes.specs.declared.code.Code.{Code}
 use Rattle.codes.specs.declared.code.Code.the-variants.{O36, E36}
 use Rattle.codes.specs.Answer.{Answer, accepted, refused}
-use Rattle.codes.specs.Digits.{columns}
-use Rattle.codes.specs.Projection.{size, width}
+use Rattle.codes.specs.Projection.{width}
 use Rattle.codes.specs.Word.{word, isCodeword, distance}
 use Rattle.codes.specs.Message.{encode, decode}
 use Rattle.codes.specs.Mending.{wrong, ones, Mended, near, none, mend}
 use Rattle.codes.specs.Codes.{projection, codeOf, reading, unknownCode, messageTooLarge, wordTooWide, notACodeword, mendedAnswer, mending}
 use Rattle.codes.specs.Search.{Near}
-use Rattle.codes.specs.Claims.{IsCodeword, RoundTrip, OneMessage, StrictReading, SumOfCodewords, EightApart, IsNear, OneNear, EightIsFar, MendsNear, RefusesFar, Starred, WordCallsRefuse}
-use Rattle.codes.proofs.Digits.{length-digits}
-use Rattle.codes.proofs.Words.{parity-of, is-codeword, codeword-sum}
+use Rattle.codes.specs.Claims.{IsCodeword, RoundTrip, OneMessage, StrictReading, SumOfCodewords, EightApart}
+use Rattle.codes.specs.Claims.{IsNear, OneNear, EightIsFar, MendsNear, RefusesFar, Starred, WordCallsRefuse}
+use Rattle.codes.proofs.Words.{length-word, same-length, codeword-parity, is-codeword, codeword-sum}
 use Rattle.codes.proofs.Distance.{close-same}
-use Rattle.codes.proofs.Messages.{encode-below, encode-codeword, decode-encode, decode-below, encode-decode, same-columns}
+use Rattle.codes.proofs.Messages.{encode-below, encode-codeword, decode-encode, decode-below, encode-decode, word-injective}
 use Rattle.codes.proofs.Codes.{systematic, apart}
 use Rattle.codes.proofs.Answers.{row-met, row-passed}
 use Rattle.codes.proofs.Rows.{not-refused, refused-by, refused-by-rows}
@@ -55,21 +56,24 @@ strict-reading c x = (accepts, λ vs e. only vs e (leb (2 ^ width (projection c)
     accepts : IsCodeword c x → reading (projection c) x ≡ accepted (decode (projection c) x ∷ [])
     accepts k =
         let π = projection c in
-        row-passed 3 (notACodeword π x ∷ []) (accepted (decode π x ∷ [])) (lt-leb (2 ^ width π) x (k .0)) ∙ row-passed 4 [] (accepted (decode π x ∷ [])) (ap not (k .1))
+        row-passed 3 (notACodeword π x ∷ []) (accepted (decode π x ∷ [])) (lt-leb (2 ^ width π) x (k .0))
+        ∙ row-passed 4 [] (accepted (decode π x ∷ [])) (ap not (k .1))
 
     only : (vs : List ℕ) → reading (projection c) x ≡ accepted vs → (wide is : Bool) →
         leb (2 ^ width (projection c)) x ≡ wide → isCodeword (projection c) (word (projection c) x) ≡ is → IsCodeword c x
     only vs e true is w f = absurd (not-both e (row-met 3 (notACodeword (projection c) x ∷ []) (accepted (decode (projection c) x ∷ [])) w))
     only vs e false false w f =
-        absurd (not-both e (row-passed 3 (notACodeword (projection c) x ∷ []) (accepted (decode (projection c) x ∷ [])) w ∙ row-met 4 [] (accepted (decode (projection c) x ∷ [])) (ap not f)))
+        let π = projection c in
+        absurd (not-both e
+        (row-passed 3 (notACodeword π x ∷ []) (accepted (decode π x ∷ [])) w ∙ row-met 4 [] (accepted (decode π x ∷ [])) (ap not f)))
     only vs e false true w f = (leb-false (2 ^ width (projection c)) x w, f)
 
 pub sum-of-codewords : SumOfCodewords
 sum-of-codewords c x y k l =
     let π = projection c in
-    let a = parity-of π (word π x) (k .1) in
-    let b = parity-of π (word π y) (l .1) in
-    is-codeword π (a .0 ⊻ b .0) _ (codeword-sum π (a .0) (b .0) (word π x) (word π y) (length-digits columns (size π) x ∙ sym (length-digits columns (size π) y)) (a .1) (b .1))
+    let a = codeword-parity π (word π x) (k .1) in
+    let b = codeword-parity π (word π y) (l .1) in
+    is-codeword π (a .0 ⊻ b .0) _ (codeword-sum π (a .0) (b .0) (word π x) (word π y) (same-length π x y) (a .1) (b .1))
 
 pub eight-apart : EightApart
 eight-apart c x y k l differ = go (leb 8 (distance (word (projection c) x) (word (projection c) y))) refl
@@ -78,31 +82,31 @@ eight-apart c x y k l differ = go (leb 8 (distance (word (projection c) x) (word
     go true e = leb-true 8 (distance (word (projection c) x) (word (projection c) y)) e
     go false e =
         let π = projection c in
-        let a = parity-of π (word π x) (k .1) in
-        let b = parity-of π (word π y) (l .1) in
-        absurd (differ (same-columns π x y (k .0) (l .0)
-        (close-same π (apart c) (a .0) (b .0) (word π x) (word π y) (length-digits columns (size π) x) (length-digits columns (size π) y) (a .1) (b .1)
+        let a = codeword-parity π (word π x) (k .1) in
+        let b = codeword-parity π (word π y) (l .1) in
+        absurd (differ (word-injective π x y (k .0) (l .0)
+        (close-same π (apart c) (a .0) (b .0) (word π x) (word π y) (length-word π x) (length-word π y) (a .1) (b .1)
         (omega (arith, leb-false 8 (distance (word π x) (word π y)) e)))))
 
--- near as a claim says it, and as mending's laws do
-near-of : (c : Code) (w m x : ℕ) → IsNear c w m x → Near (projection c) w m x
-near-of c w m x n = record { fits = n .0 .0; codeword = n .0 .1; near = n .1 }
+-- near as a claim says it, to near as mending's laws say it, and back
+to-near : (c : Code) (w m x : ℕ) → IsNear c w m x → Near (projection c) w m x
+to-near c w m x n = record { fits = n .0 .0; codeword = n .0 .1; near = n .1 }
 
-of-near : (c : Code) (w m x : ℕ) → Near (projection c) w m x → IsNear c w m x
-of-near c w m x n = ((n .fits, n .codeword), n .near)
+from-near : (c : Code) (w m x : ℕ) → Near (projection c) w m x → IsNear c w m x
+from-near c w m x n = ((n .fits, n .codeword), n .near)
 
 pub one-near : OneNear
-one-near c w m x y a b = mends.one-near (projection c) w m (systematic c) (apart c) x y (near-of c w m x a) (near-of c w m y b)
+one-near c w m x y a b = mends.one-near (projection c) w m (systematic c) (apart c) x y (to-near c w m x a) (to-near c w m y b)
 
 pub eight-is-far : EightIsFar
-eight-is-far c w m x k e y b = mends.eight-none (projection c) w m (systematic c) (apart c) x (k .0) (k .1) e y (near-of c w m y b)
+eight-is-far c w m x k e y b = mends.eight-none (projection c) w m (systematic c) (apart c) x (k .0) (k .1) e y (to-near c w m y b)
 
 pub mends-near : MendsNear
 mends-near c w m hw hm = (gives, λ vs e. only vs (mend (projection c) w m) refl (sym (mending-fits (projection c) w m hw hm) ∙ e))
   where
     gives : (x : ℕ) → IsNear c w m x →
         mending (projection c) w m ≡ accepted (x ∷ decode (projection c) x ∷ wrong (projection c) w m x ∷ ones (projection c) m ∷ [])
-    gives x n = mending-fits (projection c) w m hw hm ∙ ap mendedAnswer (mend-near (projection c) w m (systematic c) (apart c) x (near-of c w m x n))
+    gives x n = mending-fits (projection c) w m hw hm ∙ ap mendedAnswer (mend-near (projection c) w m (systematic c) (apart c) x (to-near c w m x n))
 
     only : (vs : List ℕ) (r : Mended) → mend (projection c) w m ≡ r → mendedAnswer r ≡ accepted vs →
         (x : ℕ) × IsNear c w m x × (vs ≡ x ∷ decode (projection c) x ∷ wrong (projection c) w m x ∷ ones (projection c) m ∷ [])
@@ -112,9 +116,11 @@ mends-near c w m hw hm = (gives, λ vs e. only vs (mend (projection c) w m) refl
         let given = mended π w m x n k l e in
         let codeword = given .1 in
         let message : decode π x ≡ n = ap (decode π) codeword ∙ decode-encode π (systematic c) n (given .0) in
-        let values : x ∷ n ∷ k ∷ l ∷ [] ≡ vs = cc in (
+        let values : x ∷ n ∷ k ∷ l ∷ [] ≡ vs = cc in
+        let fits = subst (λ (z : ℕ). z < 2 ^ width π) (sym codeword) (encode-below π (systematic c) n) in
+        let is = ap (λ (z : ℕ). isCodeword π (word π z)) codeword ∙ encode-codeword π (systematic c) n in (
           x,
-          ((subst (λ (z : ℕ). z < 2 ^ width π) (sym codeword) (encode-below π (systematic c) n), ap (λ (z : ℕ). isCodeword π (word π z)) codeword ∙ encode-codeword π (systematic c) n), given .4),
+          ((fits, is), given .4),
           sym values ∙ cc (message, given .2, given .3),
         )
 
@@ -124,7 +130,7 @@ refuses-far c w m hw hm = (refuses, only)
     refuses : ((x : ℕ) → IsNear c w m x → ⊥) → mending (projection c) w m ≡ refused 5
     refuses empty =
         mending-fits (projection c) w m hw hm
-        ∙ ap mendedAnswer (mend-none (projection c) w m (systematic c) (apart c) (λ y n. empty y (of-near c w m y n)))
+        ∙ ap mendedAnswer (mend-none (projection c) w m (systematic c) (apart c) (λ y n. empty y (from-near c w m y n)))
 
     only : mending (projection c) w m ≡ refused 5 → (x : ℕ) → IsNear c w m x → ⊥
     only e x n = not-both (mends-near c w m hw hm .0 x n) e
@@ -134,6 +140,7 @@ lost-sample : (c : Code) (w m x : ℕ) → w < 2 ^ width (projection c) → m < 
     2 * wrong (projection c) w m x + ones (projection c) m ≡ 8 → mending (projection c) w m ≡ refused 5
 lost-sample c w m x hw hm k e = refuses-far c w m hw hm .0 (eight-is-far c w m x k e)
 
+-- the proofs of a list of samples
 infixr 10 _&_
 _&_ : {A B : Type 0} → A → B → A × B
 a & b = (a, b)

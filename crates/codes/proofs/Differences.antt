@@ -1,35 +1,35 @@
 -- What a word's parities and syndrome say of its difference from a codeword.
 -- A column of another parity than the codeword's differs in a position. The difference's syndrome is the word's, so where no choice of at
 -- most k live values has that syndrome, the difference has more than k live columns: each has a one, and two where all columns are even.
--- The table of entries tells this for k = 0 and 1, and names the one live column else: a computed test of all syndromes.
+-- Of a syndrome other than zero that is so for k = 0, and for k = 1 if it has no entry in the table; an entry names a column and a value
+-- that make the syndrome. These are computed tests of all syndromes.
 -- Assumes nothing.
 use mathlib.Core.Path.{_≡_, refl, sym, ap, ap₂, _∙_, subst}
 use mathlib.Core.Bool.{Bool, true, false, not, _&&_, _||_}
 use mathlib.Core.List.{List, [], _∷_, map}
 use Prim.Native.Nat.{ℕ, zero, suc, _+_, _-_, _*_, _/_, _%_, _^_, _≤_, _<_}
-use native.Mathlib.Nat.{zero-div}
 use native.Mathlib.Omega.{arith}
 use lib.Dec.{T, leb, leb→le, ltb, ltb→lt, eqb, eqb→eq}
 use borrow.Author.Tests.{eq-eqb, ne-eqb}
-use lib.ListN.{length, getD}
+use lib.ListN.{length, getD, length-map}
 use Rattle.symbols.specs.Symbol.{_⊻_, Symbol, isZero, symbolOf}
 use Rattle.symbols.specs.Column.{Column, value, parity, one, weight, _⊕_}
-use Rattle.symbols.proofs.Every.{columns as all-columns, _⊗_, below, at-below, and-left, and-right}
-use Rattle.symbols.proofs.Symbols.{add-self}
+use Rattle.symbols.proofs.Every.{columns as all-columns, _⊗_, law-le, below, at-below, and-left, and-right}
 use Rattle.codes.specs.Digits.{symbols, digits, numberOf}
 use Rattle.codes.specs.Vector.{addV, scale, isZeroV}
 use Rattle.codes.specs.Projection.{Projection, size}
 use Rattle.codes.specs.Word.{_⊞_, syndromeOf, allParity, weightOf, distance}
 use Rattle.codes.specs.Search.{entry, tableFrom, entryTable, lacks}
-use Rattle.codes.proofs.Vectors.{addV-assoc, zero-add}
-use Rattle.codes.proofs.Words.{length-sum, length-map, syndrome-sum, parity-first, parity-rest, parity-cons}
-use Rattle.codes.proofs.Distance.{isLive, live, settles, settled, even-live, count-cons, test-true}
+use Rattle.codes.proofs.Arrays.{tabulated, table-at}
+use Rattle.codes.proofs.Vectors.{addV-assoc, add-zero-vector, addV-self}
+use Rattle.codes.proofs.Words.{length-sum, syndrome-sum, parity-first, parity-rest, parity-cons, count-cons}
+use Rattle.codes.proofs.Distance.{isLive, live, onlyZeros, only-zeros, even-word-weight, test-true}
 
--- columns that lack a parity
-lacks-bit : (p : Bool) (x y : Column) → parity y ≡ p → one (p ⊻ parity x) ≤ weight (x ⊕ y)
-lacks-bit p x y e =
+-- a column, and a word, differs from one that has the parity in at least as many positions as columns lack it
+lacks-weight : (p : Bool) (x y : Column) → parity y ≡ p → one (p ⊻ parity x) ≤ weight (x ⊕ y)
+lacks-weight p x y e =
     subst (λ (q : Bool). one (q ⊻ parity x) ≤ weight (x ⊕ y)) e
-    (leb→le _ _ ((all-columns ⊗ all-columns) .at (λ (x, y). leb (one (parity y ⊻ parity x)) (weight (x ⊕ y))) tt (x, y)))
+    (law-le (all-columns ⊗ all-columns) (λ (x, y). one (parity y ⊻ parity x)) (λ (x, y). weight (x ⊕ y)) tt (x, y))
 
 pub lacks-distance : (p : Bool) (f c : List Column) → length f ≡ length c → allParity p c ≡ true → lacks p f ≤ distance f c
 lacks-distance p [] c e t = omega arith
@@ -38,14 +38,21 @@ lacks-distance p (x ∷ xs) (y ∷ ys) e t =
     omega (
       arith,
       count-cons (p ⊻ parity x) (map (λ c. p ⊻ parity c) xs),
-      lacks-bit p x y (parity-first p y ys t),
+      lacks-weight p x y (parity-first p y ys t),
       lacks-distance p xs ys (omega arith) (parity-rest p y ys t),
     )
 
+-- each column lacks one of the parities; where none lacks a parity, all have it
 pub lacks-both : (cs : List Column) → lacks true cs + lacks false cs ≡ length cs
 lacks-both [] = refl
 lacks-both (c ∷ cs) =
-    omega (arith, lacks-both cs, count-cons (not (parity c)) (map (λ c. not (parity c)) cs), count-cons (parity c) (map parity cs), one-either (parity c))
+    omega (
+      arith,
+      lacks-both cs,
+      count-cons (not (parity c)) (map (λ c. not (parity c)) cs),
+      count-cons (parity c) (map parity cs),
+      one-either (parity c),
+    )
   where
     one-either : (b : Bool) → one (not b) + one b ≡ 1
     one-either true = refl
@@ -63,70 +70,67 @@ lacks-none p (c ∷ cs) e =
     agree false true z = absurd (omega arith)
     agree false false z = refl
 
--- a vector added to itself is zero
-self-zero : (x : List Symbol) → isZeroV (addV x x) ≡ true
-self-zero [] = refl
-self-zero (x ∷ xs) = ap₂ (λ (s : Symbol) (b : Bool). isZero s && b) (add-self x) (self-zero xs)
-
-pub zero-digits : (r : ℕ) → isZeroV (digits symbols r 0) ≡ true
-zero-digits zero = refl
-zero-digits (suc r) = ap₂ (λ (n : ℕ) (b : Bool). isZero (symbolOf n) && b) (zero-div (4 ^ r)) (zero-digits r)
-
--- live columns
+-- each live column has a one
 live-weight : (cs : List Column) → live (map value cs) ≤ weightOf cs
 live-weight [] = omega arith
-live-weight (c ∷ cs) =
-    omega (arith, leb→le (isLive (value c)) (weight c) (all-columns .at (λ c. leb (isLive (value c)) (weight c)) tt c), live-weight cs)
+live-weight (c ∷ cs) = omega (arith, law-le all-columns (λ c. isLive (value c)) weight tt c, live-weight cs)
 
-module _ (π : Projection) (l : ℕ) (s : List Symbol) (test : T (settles (π .matrix) l s false)) (f c : List Column)
-    (known : s ≡ syndromeOf π f) (zero-sum : isZeroV (syndromeOf π c) ≡ true) (ef : length f ≡ size π) (ec : length c ≡ size π) where
+-- f is a word with syndrome s, which no choice of at most l live values has, and c one with syndrome zero
+module _ (π : Projection) (l : ℕ) (s : List Symbol) (test : T (onlyZeros (π .matrix) l s false)) (f c : List Column)
+    (known : s ≡ syndromeOf π f) (no-syndrome : isZeroV (syndromeOf π c) ≡ true) (ef : length f ≡ size π) (ec : length c ≡ size π) where
   none-live : live (map value (f ⊞ c)) ≤ l → ⊥
   none-live h =
       let e : length f ≡ length c = ef ∙ sym ec in
       let a = syndromeOf π f in
       let b = syndromeOf π c in
-      settled (π .rows) (π .matrix) l s false test (map value (f ⊞ c)) (length-map value (f ⊞ c) ∙ length-sum f c e ∙ ef) h
+      only-zeros (π .rows) (π .matrix) l s false test (map value (f ⊞ c)) (length-map (f ⊞ c) value ∙ length-sum f c e ∙ ef) h
       (ap₂ (λ (x y : List Symbol). isZeroV (addV x y)) known (syndrome-sum π f c e)
-      ∙ ap isZeroV (sym (addV-assoc a a b)) ∙ zero-add (addV a a) b zero-sum ∙ self-zero a)
+      ∙ ap isZeroV (sym (addV-assoc a a b)) ∙ add-zero-vector (addV a a) b no-syndrome ∙ addV-self a)
 
-  -- each live column has a one
   pub none-close : distance f c ≤ l → ⊥
   none-close h = none-live (omega (arith, live-weight (f ⊞ c)))
 
-  -- where the difference is even, each has two
+  -- where the difference is even, each live column has two ones
   pub none-even : allParity false (f ⊞ c) ≡ true → distance f c ≤ 2 * l + 1 → ⊥
-  none-even t h = none-live (omega (arith, even-live (f ⊞ c) t))
+  none-even t h = none-live (omega (arith, even-word-weight (f ⊞ c) t))
 
--- an entry names a column and a scale, not 0, that make the syndrome
+-- the packed syndrome of the column and the scale that an entry names, and the test that an entry names a column, and a scale other
+-- than 0, that make a syndrome
 abbrev makes : Projection → ℕ → ℕ
 makes π e = numberOf symbols (scale (symbolOf (e % 4)) (getD (π .matrix) (e / 4 - 1) []))
 
 abbrev names : Projection → ℕ → ℕ → Bool
 names π s e = leb 4 e && (ltb (e / 4 - 1) (size π) && (not (isZero (symbolOf (e % 4))) && eqb (makes π e) s))
 
--- the tests of a code's table
+-- the tests of a code's table: a syndrome other than zero takes a live value to make it, and more than one if it has no entry; an entry
+-- names what makes the syndrome
 pub record Tabled (π : Projection) : Type 0 where
-  pub nonzero : T (below (4 ^ π .rows) (λ s. eqb s 0 || settles (π .matrix) 0 (digits symbols (π .rows) s) false))
-  pub unnamed : T (below (4 ^ π .rows) (λ s. (eqb s 0 || not (eqb (entry π s) 0)) || settles (π .matrix) 1 (digits symbols (π .rows) s) false))
+  pub nonzero : T (below (4 ^ π .rows) (λ s. eqb s 0 || onlyZeros (π .matrix) 0 (digits symbols (π .rows) s) false))
+  pub unnamed : T (below (4 ^ π .rows) (λ s. (eqb s 0 || not (eqb (entry π s) 0)) || onlyZeros (π .matrix) 1 (digits symbols (π .rows) s) false))
   pub named : T (below (4 ^ π .rows) (λ s. eqb (entry π s) 0 || names π s (entry π s)))
 
+-- the entry e names what makes the syndrome s
 pub record Named (π : Projection) (s e : ℕ) : Type 0 where
   pub from : 4 ≤ e
   pub place : e / 4 - 1 < size π
   pub scaling : not (isZero (symbolOf (e % 4))) ≡ true
   pub made : makes π e ≡ s
 
+-- of two tests, one of which passes everywhere, the second passes where the first fails
 tested : (n : ℕ) (f g : ℕ → Bool) → T (below n (λ s. f s || g s)) → (s : ℕ) → s < n → f s ≡ false → T (g s)
 tested n f g t s h e = subst (λ (b : Bool). T (b || g s)) e (at-below n (λ s. f s || g s) t s h)
 
 module _ (π : Projection) (tabled : Tabled π) (s : ℕ) (small : s < 4 ^ π .rows) where
-  pub zero-live : (s ≡ 0 → ⊥) → T (settles (π .matrix) 0 (digits symbols (π .rows) s) false)
-  zero-live n = tested (4 ^ π .rows) (λ s. eqb s 0) (λ s. settles (π .matrix) 0 (digits symbols (π .rows) s) false) (tabled .nonzero) s small (ne-eqb s 0 n)
+  -- no choice without a live value, and none with at most one, has the syndrome
+  pub more-than-none : (s ≡ 0 → ⊥) → T (onlyZeros (π .matrix) 0 (digits symbols (π .rows) s) false)
+  more-than-none n =
+      tested (4 ^ π .rows) (λ s. eqb s 0) (λ s. onlyZeros (π .matrix) 0 (digits symbols (π .rows) s) false) (tabled .nonzero) s small
+      (ne-eqb s 0 n)
 
-  pub one-live : (s ≡ 0 → ⊥) → entry π s ≡ 0 → T (settles (π .matrix) 1 (digits symbols (π .rows) s) false)
-  one-live n e =
-      tested (4 ^ π .rows) (λ s. eqb s 0 || not (eqb (entry π s) 0)) (λ s. settles (π .matrix) 1 (digits symbols (π .rows) s) false) (tabled .unnamed) s small
-      (ap₂ (λ (a b : Bool). a || not b) (ne-eqb s 0 n) (eq-eqb (entry π s) 0 e))
+  pub more-than-one : (s ≡ 0 → ⊥) → entry π s ≡ 0 → T (onlyZeros (π .matrix) 1 (digits symbols (π .rows) s) false)
+  more-than-one n e =
+      tested (4 ^ π .rows) (λ s. eqb s 0 || not (eqb (entry π s) 0)) (λ s. onlyZeros (π .matrix) 1 (digits symbols (π .rows) s) false)
+      (tabled .unnamed) s small (ap₂ (λ (a b : Bool). a || not b) (ne-eqb s 0 n) (eq-eqb (entry π s) 0 e))
 
   pub entry-names : (entry π s ≡ 0 → ⊥) → Named π s (entry π s)
   entry-names n =
@@ -144,14 +148,11 @@ module _ (π : Projection) (tabled : Tabled π) (s : ℕ) (small : s < 4 ^ π .r
         made = eqb→eq (makes π e) s (and-right c d v);
       }
 
--- an entry in the table
-getD-table : (n k : ℕ) (f : ℕ → ℕ) (i : ℕ) → i < n → getD (tableFrom n k f) i 0 ≡ f (k + i)
-getD-table zero k f i h = absurd (omega arith)
-getD-table (suc n) k f zero h = ap f (omega arith)
-getD-table (suc n) k f (suc i) h = getD-table n (suc k) f i (omega arith) ∙ ap f (omega arith)
+-- the table of entries holds them in order
+table-tabulated : (n k : ℕ) (f : ℕ → ℕ) → tableFrom n k f ≡ tabulated n k f
+table-tabulated zero k f = refl
+table-tabulated (suc n) k f = ap (λ (l : List ℕ). f k ∷ l) (table-tabulated n (suc k) f)
 
 pub entry-at : (π : Projection) (l : List ℕ) (s : ℕ) → l ≡ entryTable π → s < 256 → getD l s 0 ≡ entry π s
 unfolding entryTable
-entry-at π l s e h =
-    let from : 0 + s ≡ s = omega arith in
-    ap (λ (l : List ℕ). getD l s 0) e ∙ getD-table 256 0 (entry π) s h ∙ ap (entry π) from
+entry-at π l s e h = ap (λ (l : List ℕ). getD l s 0) (e ∙ table-tabulated 256 0 (entry π)) ∙ table-at 256 (entry π) 0 s h

@@ -1,23 +1,26 @@
 -- Numbers and their digits: there and back, for bits, symbols and columns at once.
--- A number modulo b^(k+1) is its k-th digit times b^k plus the number modulo b^k; all laws follow from that by induction on k.
+-- A number modulo b^(k+1) is its digit k times b^k plus the number modulo b^k; all laws of digits follow from that by induction on k.
+-- Below them stand laws of powers and shifts.
 -- Assumes nothing.
 use mathlib.Core.Path.{_≡_, refl, sym, ap, ap₂, _∙_, subst}
 use mathlib.Core.Bool.{Bool-discrete}
 use mathlib.Core.List.{List, [], _∷_}
 use Prim.Native.Nat.{ℕ, zero, suc, _+_, _*_, _/_, _%_, _^_, _<_}
-use native.Mathlib.Nat.{mod-lt, mod-eq-of-lt, mod-one, mul-pos, one-mul, pow-succ', pow-zero}
+use native.Mathlib.Nat.{div-one, mod-lt, mod-eq-of-lt, mod-one, mul-zero, mul-suc, one-le-pow, one-mul, pow-zero, pow-suc, pow-succ'}
 use native.Mathlib.Omega.{arith}
 use lib.Arith.{digits-lt, digits-div, digits-mod, mod-mul}
-use lib.Dec.{eqb, ltb, ltb→lt, lit<}
+use lib.Dec.{eqb, lit<}
 use lib.ListN.{length}
-use lib.Pow.{shl-exact}
+use lib.Pow.{pow-add, shl-exact, shr-shr}
 use Rattle.symbols.specs.Symbol.{bit}
 use Rattle.symbols.specs.Column.{one}
 use Rattle.symbols.proofs.Every.{bits as all-bits, law, law-below, number-discrete}
-use Rattle.symbols.proofs.Numbers.{symbol-of-number, number-of-symbol, symbol-number-lt, symbol-mod, column-of-number, number-of-column, column-number-lt, column-mod}
+use Rattle.symbols.proofs.Columns.{one-le}
+use Rattle.symbols.proofs.Numbers.{bit-mod, symbol-of-number, number-of-symbol, symbol-number-lt, symbol-mod}
+use Rattle.symbols.proofs.Numbers.{column-of-number, number-of-column, column-number-lt, column-mod}
 use Rattle.codes.specs.Digits.{Digit, bits, symbols, columns, digits, numberOf}
 
--- a digit type fits its base
+-- a type of digits fits its base: its digits are the numbers below it, and a number's lowest digit is its remainder
 pub record Fit {A : Type 0} (d : Digit A) : Type 0 where
   pub pos : 0 < d .base
   pub small : (x : A) → d .number x < d .base
@@ -25,31 +28,22 @@ pub record Fit {A : Type 0} (d : Digit A) : Type 0 where
   pub there : (n : ℕ) → d .number (d .lowest n) ≡ n % d .base
   pub modulo : (n : ℕ) → d .lowest (n % d .base) ≡ d .lowest n
 
-pow-pos : (b k : ℕ) → 0 < b → 0 < b ^ k
-pow-pos b zero h = rw pow-zero (lit< tt)
-pow-pos b (suc k) h = rw (pow-succ' b k) (mul-pos h (pow-pos b k h))
-
-pub bits-fit : Fit bits
-bits-fit =
-    record {
-      pos = lit< tt;
-      small = λ x. ltb→lt (one x) 2 (all-bits .at (λ x. ltb (one x) 2) tt x);
-      back = λ x. law all-bits Bool-discrete (λ x. bit 0 (one x)) (λ x. x) tt x;
-      there = λ n. bit-number n;
-      modulo = λ n. ap (λ (x : ℕ). eqb x 1) (half-mod n);
-    }
-  where
-    half-mod : (n : ℕ) → n % 2 / 1 % 2 ≡ n / 1 % 2
-    half-mod n = omega arith
-
-    bit-number : (n : ℕ) → one (bit 0 n) ≡ n % 2
-    bit-number n = law-below 2 number-discrete (λ k. one (eqb k 1)) (λ k. k) tt (n / 1 % 2) (mod-lt (n / 1) (lit< tt)) ∙ omega arith
-
--- digits that are numbers below the base
+-- it is enough that the digits and the numbers below the base are each other's, and that a number has its remainder's lowest digit
 below-base : {A : Type 0} (d : Digit A) → 0 < d .base → ((x : A) → d .number x < d .base) → ((x : A) → d .lowest (d .number x) ≡ x) →
     ((n : ℕ) → n < d .base → d .number (d .lowest n) ≡ n) → ((n : ℕ) → d .lowest (n % d .base) ≡ d .lowest n) → Fit d
 below-base d pos small back there modulo =
-    record { pos = pos; small = small; back = back; there = λ n. ap (d .number) (sym (modulo n)) ∙ there (n % d .base) (mod-lt n pos); modulo = modulo }
+    record {
+      pos = pos;
+      small = small;
+      back = back;
+      there = λ n. ap (d .number) (sym (modulo n)) ∙ there (n % d .base) (mod-lt n pos);
+      modulo = modulo;
+    }
+
+pub bits-fit : Fit bits
+bits-fit =
+    below-base bits (lit< tt) (λ x. omega (arith, one-le x)) (law all-bits Bool-discrete (λ x. bit 0 (one x)) (λ x. x) tt)
+    (law-below 2 number-discrete (λ n. one (bit 0 n)) (λ n. n) tt) (bit-mod 0 0)
 
 pub symbols-fit : Fit symbols
 symbols-fit = below-base symbols (lit< tt) symbol-number-lt symbol-of-number number-of-symbol symbol-mod
@@ -62,10 +56,11 @@ length-digits d zero n = refl
 length-digits d (suc k) n = ap suc (length-digits d k n)
 
 module _ {A : Type 0} (d : Digit A) (fit : Fit d) where
-  -- the place value of digit k
+  -- the place value of digit k is positive
   pub place-pos : (k : ℕ) → 0 < d .base ^ k
-  place-pos k = pow-pos (d .base) k (fit .pos)
+  place-pos k = one-le-pow k (d .base) (fit .pos)
 
+  -- a number's lowest k + 1 digits are digit k and the lowest k
   high-digit : (k n : ℕ) → n % d .base ^ suc k ≡ (n / d .base ^ k % d .base) * d .base ^ k + n % d .base ^ k
   high-digit k n = ap (λ (b : ℕ). n % b) (pow-succ' (d .base) k) ∙ mod-mul n (fit .pos) (place-pos k)
 
@@ -86,7 +81,6 @@ module _ {A : Type 0} (d : Digit A) (fit : Fit d) where
   digits-remainder zero n = refl
   digits-remainder (suc k) n =
       let q = n / d .base ^ k % d .base in
-      let low = n % d .base ^ k in
       let small = mod-lt n (place-pos k) in
       let e = high-digit k n in
       ap₂ _∷_
@@ -95,7 +89,7 @@ module _ {A : Type 0} (d : Digit A) (fit : Fit d) where
       ∙ ap (digits d k) (ap (λ (x : ℕ). x % d .base ^ k) e ∙ digits-mod q small) ∙ digits-remainder k n)
 
   -- a list of digits is its number's
-  pub digits-number : (xs : List A) → digits d (length xs) (numberOf d xs) ≡ xs
+  digits-number : (xs : List A) → digits d (length xs) (numberOf d xs) ≡ xs
   digits-number [] = refl
   digits-number (x ∷ xs) =
       let small = number-lt xs in
@@ -110,6 +104,22 @@ module _ {A : Type 0} (d : Digit A) (fit : Fit d) where
   pub number-again : (k n : ℕ) → n < d .base ^ k → numberOf d (digits d k n) ≡ n
   number-again k n h = number-digits k n ∙ mod-eq-of-lt h
 
--- a power of two below 2 ^ 64, as a shift makes it
+-- a power of a power
+pub pow-mul : (a m n : ℕ) → (a ^ m) ^ n ≡ a ^ (m * n)
+pow-mul a m zero = pow-zero (a ^ m) ∙ sym (ap (λ (x : ℕ). a ^ x) (mul-zero m) ∙ pow-zero a)
+pow-mul a m (suc n) =
+    pow-suc (a ^ m) n
+    ∙ ap (λ (x : ℕ). x * a ^ m) (pow-mul a m n)
+    ∙ sym (ap (λ (x : ℕ). a ^ x) (mul-suc m n) ∙ pow-add a (m * n) m)
+
+-- two shifts are one
+pub shift-shift : (n k f : ℕ) → n / 2 ^ k / 4 ^ f ≡ n / 2 ^ (k + 2 * f)
+shift-shift n k f = ap (λ (x : ℕ). n / 2 ^ k / x) (pow-mul 2 2 f) ∙ shr-shr n k (2 * f)
+
+-- a bit is the lowest of a quotient
+pub bit-at : (k n : ℕ) → bit 0 (n / 2 ^ k) ≡ bit k n
+bit-at k n = ap (λ (x : ℕ). eqb (x % 2) 1) (div-one (n / 2 ^ k))
+
+-- a shift of 1 by fewer than 64 places is a power of two
 pub power-fits : (k : ℕ) → k < 64 → (1 * 2 ^ k) % 2 ^ 64 ≡ 2 ^ k
 power-fits k h = shl-exact 1 k 64 (lit< tt) (omega arith) ∙ one-mul (2 ^ k)

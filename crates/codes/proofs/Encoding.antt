@@ -1,25 +1,26 @@
 -- Messages and codewords: a message's columns are a codeword and say the message again, and a codeword is that of its own message.
--- A column is fixed by parity, value and top bit; the values are fixed by the free ones, the top bits by all but the last.
+-- A column is fixed by parity, value and top bit, so a word of one parity is fixed by its values and top bits. The values of a codeword are
+-- fixed by the free ones, its top bits by all but the last: these and the parity are the message.
 -- Assumes nothing.
 use mathlib.Core.Path.{_≡_, refl, sym, ap, ap₂, _∙_}
-use mathlib.Core.Bool.{Bool, true, false, Bool-discrete}
+use mathlib.Core.Bool.{Bool, true, false}
 use mathlib.Core.List.{List, [], _∷_, map}
 use Prim.Native.Nat.{suc, _-_, _<_}
 use native.Mathlib.Omega.{arith}
-use lib.ListN.{length}
+use lib.ListN.{length, length-map}
 use Rattle.symbols.specs.Symbol.{_⊻_, Symbol}
 use Rattle.symbols.specs.Column.{Column, value, parity, top, columnWith}
-use Rattle.symbols.proofs.Every.{bits, _⊗_, law}
+use Rattle.symbols.proofs.Symbols.{xor-false, xor-twice}
 use Rattle.symbols.proofs.Columns.{with-of, parity-with, value-with, top-with}
 use Rattle.codes.specs.Vector.{isZeroV}
 use Rattle.codes.specs.Projection.{Projection, wanted, count, size, topBits}
 use Rattle.codes.specs.Word.{syndrome, allParity, topRow}
 use Rattle.codes.specs.Message.{Message, allValues, allTops, columnsWith, codewordOf, chosen, firstParity, butLast, messageIn}
-use Rattle.codes.proofs.Words.{Codeword, length-map, parity-first, parity-rest, parity-cons}
+use Rattle.codes.proofs.Words.{Codeword, parity-first, parity-rest, parity-cons}
 use Rattle.codes.proofs.Placing.{Systematic, length-values, values-zero, chosen-values, values-chosen, length-chosen}
 
--- columns of one parity by their values and top bits
-pub length-with : (p : Bool) (vs : List Symbol) (ts : List Bool) → length vs ≡ length ts → length (columnsWith p vs ts) ≡ length vs
+-- columns of one parity by their values and top bits: they have these, and are fixed by them
+length-with : (p : Bool) (vs : List Symbol) (ts : List Bool) → length vs ≡ length ts → length (columnsWith p vs ts) ≡ length vs
 length-with p [] ts e = refl
 length-with p (v ∷ vs) [] e = absurd (omega arith)
 length-with p (v ∷ vs) (t ∷ ts) e = ap suc (length-with p vs ts (omega arith))
@@ -40,26 +41,20 @@ with-tops p [] (t ∷ ts) e = absurd (omega arith)
 with-tops p (v ∷ vs) [] e = absurd (omega arith)
 with-tops p (v ∷ vs) (t ∷ ts) e = ap₂ _∷_ (top-with p v t) (with-tops p vs ts (omega arith))
 
-pub columns-with : (p : Bool) (cs : List Column) → allParity p cs ≡ true → columnsWith p (map value cs) (map top cs) ≡ cs
+columns-with : (p : Bool) (cs : List Column) → allParity p cs ≡ true → columnsWith p (map value cs) (map top cs) ≡ cs
 columns-with p [] e = refl
 columns-with p (c ∷ cs) e =
     ap₂ _∷_ (ap (λ (q : Bool). columnWith q (value c) (top c)) (sym (parity-first p c cs e)) ∙ with-of c) (columns-with p cs (parity-rest p c cs e))
 
--- the last top bit
+-- the top row's parity is the sum of the top bits, so the last one is fixed by the others
 xors : List Bool → Bool
 xors [] = false
 xors (b ∷ bs) = b ⊻ xors bs
 
-top-row : (cs : List Column) → topRow cs ≡ xors (map top cs)
+topRow-xors : (cs : List Column) → topRow cs ≡ xors (map top cs)
 unfolding xors
-top-row [] = refl
-top-row (c ∷ cs) = ap (λ (b : Bool). top c ⊻ b) (top-row cs)
-
-xor-false : (a : Bool) → a ⊻ false ≡ a
-xor-false a = law bits Bool-discrete (λ a. a ⊻ false) (λ a. a) tt a
-
-xor-twice : (a b : Bool) → a ⊻ (a ⊻ b) ≡ b
-xor-twice a b = law (bits ⊗ bits) Bool-discrete (λ (a, b). a ⊻ (a ⊻ b)) (λ (a, b). b) tt (a, b)
+topRow-xors [] = refl
+topRow-xors (c ∷ cs) = ap (λ (b : Bool). top c ⊻ b) (topRow-xors cs)
 
 pub length-tops : (t : Bool) (bs : List Bool) → length (allTops t bs) ≡ suc (length bs)
 length-tops t [] = refl
@@ -92,12 +87,14 @@ pub record Sized (π : Projection) (m : Message) : Type 0 where
   pub values : length (m .values) ≡ count (π .free)
   pub tops : length (m .tops) ≡ topBits π
 
+-- the first column's parity is that of all
 first-parity : (p : Bool) (cs : List Column) → 0 < length cs → allParity p cs ≡ true → firstParity cs ≡ p
 first-parity p [] h e = absurd (omega arith)
 first-parity p (c ∷ cs) h e = parity-first p c cs e
 
 module _ (π : Projection) (sys : Systematic π) where
   module _ (m : Message) (fit : Sized π m) where
+    -- all top bits of the codeword
     abbrev tops : List Bool
     tops = allTops (wanted (π .rule) (m .parity)) (m .tops)
 
@@ -114,18 +111,18 @@ module _ (π : Projection) (sys : Systematic π) where
     tops-of = with-tops (m .parity) (allValues π (m .values)) tops as-many
 
     -- a message's columns are a codeword
-    pub codeword-is : Codeword π (m .parity) (codewordOf π m)
-    codeword-is =
+    pub message-codeword : Codeword π (m .parity) (codewordOf π m)
+    message-codeword =
         record {
           zero = ap (λ (vs : List Symbol). isZeroV (syndrome (π .rows) (π .matrix) vs)) values-of ∙ values-zero π sys (m .values);
           parities = with-parity (m .parity) (allValues π (m .values)) tops;
-          tops = top-row (codewordOf π m) ∙ ap xors tops-of ∙ xor-tops (wanted (π .rule) (m .parity)) (m .tops);
+          tops = topRow-xors (codewordOf π m) ∙ ap xors tops-of ∙ xor-tops (wanted (π .rule) (m .parity)) (m .tops);
         }
 
     -- and they say the message again
     pub message-of-codeword : messageIn π (codewordOf π m) ≡ m
     message-of-codeword =
-        let ep = first-parity (m .parity) (codewordOf π m) (omega (arith, length-codeword, sys .some)) (codeword-is .parities) in
+        let ep = first-parity (m .parity) (codewordOf π m) (omega (arith, length-codeword, sys .some)) (message-codeword .parities) in
         let ev = ap (chosen (π .free)) values-of ∙ chosen-values π sys (m .values) (fit .values) in
         let et = ap butLast tops-of ∙ but-last-tops (wanted (π .rule) (m .parity)) (m .tops) in
         λ i. record { parity = ep i; values = ev i; tops = et i }
@@ -134,8 +131,8 @@ module _ (π : Projection) (sys : Systematic π) where
   pub sized : (cs : List Column) → length cs ≡ size π → Sized π (messageIn π cs)
   sized cs long =
       record {
-        values = length-chosen (π .free) (map value cs) (length-map value cs ∙ long ∙ sym (sys .marks));
-        tops = length-but-last (map top cs) ∙ omega (arith, length-map top cs);
+        values = length-chosen (π .free) (map value cs) (length-map cs value ∙ long ∙ sym (sys .flags));
+        tops = length-but-last (map top cs) ∙ omega (arith, length-map cs top);
       }
 
   -- a codeword is that of its message
@@ -144,6 +141,6 @@ module _ (π : Projection) (sys : Systematic π) where
       let ep = first-parity p cs (omega (arith, sys .some)) (is .parities) in
       ap (λ (q : Bool). columnsWith q (allValues π (messageIn π cs .values)) (allTops (wanted (π .rule) q) (messageIn π cs .tops))) ep
       ∙ ap₂ (columnsWith p)
-      (values-chosen π sys (map value cs) (length-map value cs ∙ long) (is .zero))
-      (tops-but-last (wanted (π .rule) p) (map top cs) (omega (arith, length-map top cs, sys .some)) (sym (is .tops) ∙ top-row cs))
+      (values-chosen π sys (map value cs) (length-map cs value ∙ long) (is .zero))
+      (tops-but-last (wanted (π .rule) p) (map top cs) (omega (arith, length-map cs top, sys .some)) (sym (is .tops) ∙ topRow-xors cs))
       ∙ columns-with p cs (is .parities)

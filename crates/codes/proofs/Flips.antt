@@ -1,6 +1,8 @@
 -- A word with some bits of one column inverted: its number, syndrome, top row, parities, and its distance from another word.
--- Where a word and another differ in the parity of a column, the column differs in an odd number of rows, so in one at least: with that
--- row inverted the words are one position nearer. Assumes nothing.
+-- Only that column changes, so each is a law of columns at that place. Where a word and another differ in the parity of a column, the
+-- column differs in an odd number of rows, so in one at least: with that row inverted the words are one position nearer. As a number, the
+-- inverted bits are shifted to the column's place and added by exclusive or.
+-- Assumes nothing.
 use mathlib.Core.Path.{_≡_, refl, sym, ap, ap₂, _∙_, subst}
 use mathlib.Core.Bool.{Bool, true, false, Bool-discrete}
 use mathlib.Core.List.{List, [], _∷_, map}
@@ -8,13 +10,13 @@ use Prim.Native.Nat.{ℕ, zero, suc, _+_, _-_, _*_, _/_, _^_, _≤_, _<_}
 use native.Mathlib.Nat.{lt-of-lt-of-le, div-eq-of-lt, zero-div, mul-div-cancel, mul-mod-left, mul-lt-mul-of-pos-right, pow-succ', pow-le-pow-right}
 use native.Mathlib.Omega.{arith}
 use lib.Bits.{xor-lt}
-use lib.Dec.{leb, leb→le, ltb, ltb→lt, eqb, eqb→eq, lit<}
+use lib.Dec.{lit<}
 use lib.ListN.{length, getD, take}
 use lib.Pow.{pow-mono, shl-lt}
 use Rattle.symbols.specs.Symbol.{_⊻_, Symbol}
 use Rattle.symbols.specs.Column.{Column, column, Column-discrete, value, parity, top, one, weight, _⊕_, columnOf}
-use Rattle.symbols.proofs.Every.{bits, columns as all-columns, _⊗_, law, implied}
-use Rattle.symbols.proofs.Symbols.{xor-assoc, xor-comm}
+use Rattle.symbols.proofs.Every.{columns as all-columns, _⊗_, law, law-le, law-where, number-discrete}
+use Rattle.symbols.proofs.Symbols.{xor-assoc, xor-comm, xor-last}
 use Rattle.symbols.proofs.Columns.{value-add, parity-add, top-add}
 use Rattle.codes.specs.Digits.{columns, digits}
 use Rattle.codes.specs.Vector.{addV, scale}
@@ -22,14 +24,15 @@ use Rattle.codes.specs.Projection.{Projection, size, width}
 use Rattle.codes.specs.Word.{word, _⊞_, syndrome, allParity, topRow, distance}
 use Rattle.codes.specs.Search.{inverted, lacks}
 use Rattle.codes.proofs.Vectors.{addV-assoc, addV-comm, scale-add}
-use Rattle.codes.proofs.Digits.{columns-fit, length-digits, place-pos, digits-remainder}
-use Rattle.codes.proofs.Words.{parity-first, parity-rest, parity-cons}
-use Rattle.codes.proofs.Distance.{count-cons}
-use Rattle.codes.proofs.Sums.{pow-mul, columns-xor}
+use Rattle.codes.proofs.Digits.{columns-fit, place-pos, digits-remainder, pow-mul}
+use Rattle.codes.proofs.Words.{length-word, parity-first, parity-rest, parity-cons, count-cons}
+use Rattle.codes.proofs.Sums.{columns-xor}
 
+-- the column of no ones
 abbrev pub blank : Column
 blank = column false false false false
 
+-- a word with the bits q of column j inverted
 abbrev pub invert : ℕ → Column → List Column → List Column
 invert j q [] = []
 invert zero q (c ∷ cs) = (c ⊕ q) ∷ cs
@@ -38,7 +41,7 @@ invert (suc j) q (c ∷ cs) = c ∷ invert j q cs
 pub take-invert : (j : ℕ) (q : Column) (f : List Column) → take j (invert j q f) ≡ take j f
 take-invert j q [] = refl
 take-invert zero q (c ∷ cs) = refl
-take-invert (suc j) q (c ∷ cs) = ap₂ _∷_ refl (take-invert j q cs)
+take-invert (suc j) q (c ∷ cs) = ap (λ (l : List Column). c ∷ l) (take-invert j q cs)
 
 pub syndrome-invert : (r : ℕ) (H : List (List Symbol)) (j : ℕ) (q : Column) (f : List Column) → length f ≡ length H → j < length f →
     syndrome r H (map value (invert j q f)) ≡ addV (syndrome r H (map value f)) (scale (value q) (getD H j []))
@@ -54,9 +57,6 @@ syndrome-invert r (x ∷ H) (suc j) q (c ∷ cs) e h =
     ap (addV (scale (value c) x)) (syndrome-invert r H j q cs (omega arith) (omega arith))
     ∙ sym (addV-assoc (scale (value c) x) (syndrome r H (map value cs)) (scale (value q) (getD H j [])))
 
-pub xor-last : (a b c : Bool) → (a ⊻ b) ⊻ c ≡ (a ⊻ c) ⊻ b
-xor-last a b c = law (bits ⊗ bits ⊗ bits) Bool-discrete (λ (a, (b, c)). (a ⊻ b) ⊻ c) (λ (a, (b, c)). (a ⊻ c) ⊻ b) tt (a, (b, c))
-
 pub topRow-invert : (j : ℕ) (q : Column) (f : List Column) → j < length f → topRow (invert j q f) ≡ topRow f ⊻ top q
 topRow-invert j q [] h = absurd (omega arith)
 topRow-invert zero q (c ∷ cs) h = ap (λ (b : Bool). b ⊻ topRow cs) (top-add c q) ∙ xor-last (top c) (top q) (topRow cs)
@@ -64,16 +64,18 @@ topRow-invert (suc j) q (c ∷ cs) h =
     ap (λ (b : Bool). top c ⊻ b) (topRow-invert j q cs (omega arith)) ∙ sym (xor-assoc (top c) (topRow cs) (top q))
 
 -- an even number of bits inverted keeps every column's parity
-pub parity-invert : (p : Bool) (j : ℕ) (q : Column) (f : List Column) → parity q ≡ false → allParity p f ≡ true → allParity p (invert j q f) ≡ true
+pub parity-invert : (p : Bool) (j : ℕ) (q : Column) (f : List Column) → parity q ≡ false →
+    allParity p f ≡ true → allParity p (invert j q f) ≡ true
 parity-invert p j q [] e t = refl
 parity-invert p zero q (c ∷ cs) e t =
     parity-cons p (c ⊕ q) cs
     (parity-add c q ∙ ap (λ (b : Bool). parity c ⊻ b) e ∙ xor-comm (parity c) false ∙ parity-first p c cs t) (parity-rest p c cs t)
-parity-invert p (suc j) q (c ∷ cs) e t = parity-cons p c (invert j q cs) (parity-first p c cs t) (parity-invert p j q cs e (parity-rest p c cs t))
+parity-invert p (suc j) q (c ∷ cs) e t =
+    parity-cons p c (invert j q cs) (parity-first p c cs t) (parity-invert p j q cs e (parity-rest p c cs t))
 
 -- an odd number of bits inverted gives a column the parity that it lacked
-pub lacks-invert : (p : Bool) (j : ℕ) (q : Column) (f : List Column) → j < length f → parity q ≡ true → p ⊻ parity (getD f j blank) ≡ true →
-    lacks p f ≡ suc (lacks p (invert j q f))
+pub lacks-invert : (p : Bool) (j : ℕ) (q : Column) (f : List Column) → j < length f →
+    parity q ≡ true → p ⊻ parity (getD f j blank) ≡ true → lacks p f ≡ suc (lacks p (invert j q f))
 lacks-invert p j q [] h e t = absurd (omega arith)
 lacks-invert p zero q (c ∷ cs) h e t =
     let l = map (λ c. p ⊻ parity c) cs in
@@ -89,7 +91,7 @@ lacks-invert p (suc j) q (c ∷ cs) h e t =
       count-cons (p ⊻ parity c) (map (λ c. p ⊻ parity c) (invert j q cs)),
     )
 
--- how far a word is then from another
+-- its distance from another word changes as that of the column does
 distance-invert : (j : ℕ) (q : Column) (f c : List Column) → length f ≡ length c → j < length f →
     distance (invert j q f) c + weight (getD f j blank ⊕ getD c j blank) ≡ distance f c + weight (getD f j blank ⊕ q ⊕ getD c j blank)
 distance-invert j q [] c e h = absurd (omega arith)
@@ -97,14 +99,14 @@ distance-invert j q (x ∷ xs) [] e h = absurd (omega arith)
 distance-invert zero q (x ∷ xs) (y ∷ ys) e h = omega arith
 distance-invert (suc j) q (x ∷ xs) (y ∷ ys) e h = omega (arith, distance-invert j q xs ys (omega arith) (omega arith))
 
--- an inverted bit brings a word no further than one position
-back : (x q y : Column) → weight (x ⊕ y) ≤ weight (x ⊕ q ⊕ y) + weight q
-back x q y =
-    leb→le (weight (x ⊕ y)) (weight (x ⊕ q ⊕ y) + weight q)
-    ((all-columns ⊗ all-columns ⊗ all-columns) .at (λ (x, (q, y)). leb (weight (x ⊕ y)) (weight (x ⊕ q ⊕ y) + weight q)) tt (x, (q, y)))
+-- a column, and a word, gets nearer by no more than the bits that are inverted
+column-nearer-by : (x q y : Column) → weight (x ⊕ y) ≤ weight (x ⊕ q ⊕ y) + weight q
+column-nearer-by x q y =
+    law-le (all-columns ⊗ all-columns ⊗ all-columns) (λ (x, (q, y)). weight (x ⊕ y)) (λ (x, (q, y)). weight (x ⊕ q ⊕ y) + weight q) tt (x, (q, y))
 
-pub no-further : (j : ℕ) (q : Column) (f c : List Column) → length f ≡ length c → j < length f → distance f c ≤ distance (invert j q f) c + weight q
-no-further j q f c e h = omega (arith, distance-invert j q f c e h, back (getD f j blank) q (getD c j blank))
+pub nearer-by : (j : ℕ) (q : Column) (f c : List Column) → length f ≡ length c → j < length f →
+    distance f c ≤ distance (invert j q f) c + weight q
+nearer-by j q f c e h = omega (arith, distance-invert j q f c e h, column-nearer-by (getD f j blank) q (getD c j blank))
 
 -- the column that has a one in row r alone
 abbrev pub rowColumn : ℕ → Column
@@ -117,24 +119,25 @@ oneRow (column false true c d) = 1
 oneRow (column false false true d) = 2
 oneRow (column false false false d) = 3
 
-one-row : (x : Column) → oneRow x < 4
-one-row x = ltb→lt (oneRow x) 4 (all-columns .at (λ x. ltb (oneRow x) 4) tt x)
+oneRow-lt : (x : Column) → oneRow x < 4
+oneRow-lt x = law-le all-columns (λ x. suc (oneRow x)) (λ x. 4) tt x
 
+-- with that row of their difference inverted, columns of different parity, and their words, are one position nearer
 row-nearer : (x y : Column) → parity x ⊻ parity y ≡ true → weight (x ⊕ rowColumn (oneRow (x ⊕ y)) ⊕ y) + 1 ≡ weight (x ⊕ y)
 row-nearer x y e =
-    eqb→eq (weight (x ⊕ rowColumn (oneRow (x ⊕ y)) ⊕ y) + 1) (weight (x ⊕ y))
-    (implied (all-columns ⊗ all-columns) (λ (x, y). parity x ⊻ parity y)
-    (λ (x, y). eqb (weight (x ⊕ rowColumn (oneRow (x ⊕ y)) ⊕ y) + 1) (weight (x ⊕ y))) tt (x, y) e)
+    law-where (all-columns ⊗ all-columns) number-discrete (λ (x, y). parity x ⊻ parity y)
+    (λ (x, y). weight (x ⊕ rowColumn (oneRow (x ⊕ y)) ⊕ y) + 1) (λ (x, y). weight (x ⊕ y)) tt (x, y) e
 
-pub nearer : (j : ℕ) (f c : List Column) → length f ≡ length c → j < length f → parity (getD f j blank) ⊻ parity (getD c j blank) ≡ true →
+pub nearer : (j : ℕ) (f c : List Column) → length f ≡ length c → j < length f →
+    parity (getD f j blank) ⊻ parity (getD c j blank) ≡ true →
     (r : ℕ) × (r < 4) × (distance (invert j (rowColumn r) f) c + 1 ≡ distance f c)
 nearer j f c e h t =
     let x = getD f j blank in
     let y = getD c j blank in
     let r = oneRow (x ⊕ y) in
-    (r, one-row (x ⊕ y), omega (arith, distance-invert j (rowColumn r) f c e h, row-nearer x y t))
+    (r, oneRow-lt (x ⊕ y), omega (arith, distance-invert j (rowColumn r) f c e h, row-nearer x y t))
 
--- the number of a word with bits of a column inverted
+-- the number of a word with bits of a column inverted: nothing is added to the other columns
 sum-blank : (c : Column) → c ⊕ blank ≡ c
 sum-blank c = law all-columns (Column-discrete Bool-discrete) (λ c. c ⊕ blank) (λ c. c) tt c
 
@@ -143,26 +146,28 @@ sum-zero k [] e = refl
 sum-zero zero (c ∷ cs) e = absurd (omega arith)
 sum-zero (suc k) (c ∷ cs) e = ap₂ _∷_ (ap (λ (n : ℕ). c ⊕ columnOf n) (zero-div (16 ^ k)) ∙ sum-blank c) (sum-zero k cs (omega arith))
 
--- i columns stand after column j
-shifted : (k j i q : ℕ) (f : List Column) → length f ≡ k → i + suc j ≡ k → q < 16 → f ⊞ digits columns k (q * 16 ^ i) ≡ invert j (columnOf q) f
-shifted k j i q [] e h l = refl
-shifted zero j i q (c ∷ cs) e h l = absurd (omega arith)
-shifted (suc k) zero i q (c ∷ cs) e h l =
+-- i columns stand behind column j
+sum-shifted : (k j i q : ℕ) (f : List Column) → length f ≡ k → i + suc j ≡ k → q < 16 → f ⊞ digits columns k (q * 16 ^ i) ≡ invert j (columnOf q) f
+sum-shifted k j i q [] e h l = refl
+sum-shifted zero j i q (c ∷ cs) e h l = absurd (omega arith)
+sum-shifted (suc k) zero i q (c ∷ cs) e h l =
     let here : i ≡ k = omega arith in
     subst (λ (n : ℕ). (c ∷ cs) ⊞ digits columns (suc k) (q * 16 ^ n) ≡ invert 0 (columnOf q) (c ∷ cs)) (sym here)
     (ap₂ _∷_ (ap (λ (n : ℕ). c ⊕ columnOf n) (mul-div-cancel q (place-pos columns columns-fit k)))
-    (ap (λ (l : List Column). cs ⊞ l) (sym (digits-remainder columns columns-fit k (q * 16 ^ k)) ∙ ap (digits columns k) (mul-mod-left q (16 ^ k))) ∙ sum-zero k cs (omega arith)))
-shifted (suc k) (suc j) i q (c ∷ cs) e h l =
+    (ap (λ (l : List Column). cs ⊞ l) (sym (digits-remainder columns columns-fit k (q * 16 ^ k)) ∙ ap (digits columns k) (mul-mod-left q (16 ^ k)))
+    ∙ sum-zero k cs (omega arith)))
+sum-shifted (suc k) (suc j) i q (c ∷ cs) e h l =
     let small : q * 16 ^ i < 16 ^ k =
-    lt-of-lt-of-le (subst (λ (n : ℕ). q * 16 ^ i < n) (sym (pow-succ' 16 i)) (mul-lt-mul-of-pos-right l (place-pos columns columns-fit i))) (pow-le-pow-right (lit< tt) (omega arith)) in
-    ap₂ _∷_ (ap (λ (n : ℕ). c ⊕ columnOf n) (div-eq-of-lt small) ∙ sum-blank c) (shifted k j i q cs (omega arith) (omega arith) l)
+    lt-of-lt-of-le (subst (λ (n : ℕ). q * 16 ^ i < n) (sym (pow-succ' 16 i)) (mul-lt-mul-of-pos-right l (place-pos columns columns-fit i)))
+    (pow-le-pow-right (lit< tt) (omega arith)) in
+    ap₂ _∷_ (ap (λ (n : ℕ). c ⊕ columnOf n) (div-eq-of-lt small) ∙ sum-blank c) (sum-shifted k j i q cs (omega arith) (omega arith) l)
 
 pub word-inverted : (π : Projection) (x j q : ℕ) → j < size π → q < 16 → word π (inverted π x j q) ≡ invert j (columnOf q) (word π x)
 word-inverted π x j q h l =
     let i = size π - 1 - j in
     columns-xor (size π) x (q * 2 ^ (4 * i))
     ∙ ap (λ (n : ℕ). word π x ⊞ word π (q * n)) (sym (pow-mul 2 4 i))
-    ∙ shifted (size π) j i q (word π x) (length-digits columns (size π) x) (omega arith) l
+    ∙ sum-shifted (size π) j i q (word π x) (length-word π x) (omega arith) l
 
 pub inverted-fits : (π : Projection) (x j q : ℕ) → x < 2 ^ width π → j < size π → q < 16 → inverted π x j q < 2 ^ width π
 inverted-fits π x j q hx h l =

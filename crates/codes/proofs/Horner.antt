@@ -1,5 +1,5 @@
 -- Reading digits into a number, highest first: the number so far, shifted by as many places as are left, and the digits that are
--- left make up the whole at each step.
+-- left make up the whole at each step. Where no digit is left it is the number so far; that never is more than the whole.
 -- Assumes nothing.
 use mathlib.Core.Path.{_≡_, sym, ap, _∙_}
 use mathlib.Core.List.{List, [], _∷_}

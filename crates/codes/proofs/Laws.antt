@@ -1,8 +1,9 @@
 -- What the layers above may cite: the limits of each code, its number, word calls whose numbers fit, and mending by its messages.
--- A word that is a message's codeword with positions f inverted has that codeword's wrong positions where f is not marked.
+-- Every codeword is that of one message, so what holds of near codewords is said here of messages. A message's codeword with positions f
+-- inverted is a word in which that codeword is wrong just where f is not marked.
 -- Assumes nothing.
 use mathlib.Core.Path.{_≡_, refl, sym, ap, _∙_, subst}
-use mathlib.Core.Bool.{Bool, true, false, cond}
+use mathlib.Core.Bool.{Bool, true, false, cond, and-eq-true-iff}
 use mathlib.Core.List.{[], _∷_}
 use Prim.Native.Nat.{ℕ, _+_, _*_, _^_, _≤_, _<_}
 use native.Mathlib.Omega.{arith}
@@ -25,12 +26,12 @@ use Rattle.codes.specs.Search.{Near}
 use Rattle.codes.proofs.Messages.{encode-below, encode-codeword, decode-encode, decode-below, encode-decode}
 use Rattle.codes.proofs.Codes.{systematic, apart}
 use Rattle.codes.proofs.Mends as mends
-use Rattle.codes.proofs.Rows.{and-true, not-refused}
+use Rattle.codes.proofs.Rows.{not-refused}
 -- the widths and message sizes, at most; and mending, where none of its other refusals is met
 pub use Rattle.codes.proofs.Codes.{width-le, bits-le}
 pub use Rattle.codes.proofs.Mends.{mending-fits}
 
--- step·4096 + reading is below the message limit exactly where the step is below its limit
+-- the step limit times 4096 is the message limit, so step·4096 + reading is a message exactly where the step is below its limit
 pub steps : (c : Code) → stepLimit (projection c) * 4096 ≡ 2 ^ messageBits (projection c)
 steps O36 = refl
 steps E36 = refl
@@ -57,7 +58,8 @@ near-mend c w m n hn h =
     mends.mend-near π w m (systematic c) (apart c) (encode π n) (near-of c w m n h)
     ∙ ap (λ (i : ℕ). near (encode π n) i (wrong π w m (encode π n)) (ones π m)) (decode-encode π (systematic c) n hn)
 
--- a codeword with positions f inverted, under marks m: f and m are words whose ones are the positions
+-- a codeword with positions f inverted, under marks m: f and m are words whose ones are the positions. At a sum of at most 7 mending gives
+-- it back; at 8 it gives nothing
 pub mend-within : (c : Code) (n f m : ℕ) → n < 2 ^ messageBits (projection c) →
     2 * outside (word (projection c) f) (word (projection c) m) + ones (projection c) m ≤ 7 →
     mend (projection c) (bitXor (encode (projection c) n) f) m
@@ -96,7 +98,7 @@ none-mend c w m empty =
 -- ---- a code's number
 
 pub code-lt : (n : ℕ) → isCode n ≡ true → n < 256
-code-lt n e = let few = leb-true n (length codes) (and-true (leb 1 n) (leb n (length codes)) e .1) in omega arith
+code-lt n e = let few = leb-true n (length codes) (and-eq-true-iff (leb 1 n) (leb n (length codes)) .0 e .1) in omega arith
 
 pub code-known : (n : ℕ) (c : Code) → codeFound n ≡ CodeFound.Code c → (isCode n ≡ true) × (c ≡ codeOf n)
 code-known n c e = go (isCode n) refl e

@@ -1,26 +1,29 @@
-pub mod Codes
-pub mod Vectors
-pub mod Digits
-pub mod Arrays
-pub mod Sums
-pub mod Walks
-pub mod Words
-pub mod Distance
-pub mod Placing
-pub mod Encoding
-pub mod Messages
-pub mod Drafts
-pub mod Horner
-pub mod Readings
-pub mod Strict
-pub mod Answers
+-- what the layers above may cite
 pub mod Claims
-pub mod Flips
-pub mod Nearness
-pub mod Differences
-pub mod Searches
-pub mod Tables
-pub mod Mends
 pub mod Laws
 pub mod Rows
-pub mod Positions
+mod Digits
+mod Vectors
+mod Sums
+mod Words
+mod Distance
+mod Placing
+mod Encoding
+mod Messages
+mod Nearness
+mod Answers
+mod Mends
+mod Codes
+mod Horner
+mod Arrays
+mod Walks
+mod Strict
+mod Drafts
+mod Readings
+mod Flips
+mod Differences
+mod Searches
+mod Settling
+mod Seeking
+mod Tables
+mod Positions

@@ -2,7 +2,8 @@
 -- The search through the messages stops at one whose codeword is near, or finds none. Each codeword is that of one message and at most
 -- one is near, so the message where it stops is that of any near codeword.
 -- A near codeword lies within three positions of one of the two fillings of the marked bits; a codeword that lies within three of a
--- filling is the only one that does. So it is enough to look there once for each filling. Assumes nothing.
+-- filling is the only one that does. So it is enough to look there once for each filling.
+-- Assumes nothing.
 use mathlib.Core.Path.{_≡_, refl, sym, ap, ap₂, _∙_, subst}
 use mathlib.Core.Logic.{_⊎_, inl, inr, ⊎-elim}
 use mathlib.Core.Bool.{Bool, true, false, cond, Bool-discrete, false≢true}
@@ -27,8 +28,9 @@ use Rattle.codes.proofs.Answers.{row-met, row-passed}
 use Rattle.codes.proofs.Placing.{Systematic}
 use Rattle.codes.proofs.Messages.{encode-below, encode-codeword, decode-encode, decode-below, encode-decode}
 use Rattle.codes.proofs.Distance.{Apart}
-use Rattle.codes.proofs.Nearness.{same-length, sum, one-codeword, filled}
+use Rattle.codes.proofs.Nearness.{sum, one-codeword, filled}
 use Rattle.codes.proofs.Sums.{word-xor}
+use Rattle.codes.proofs.Words.{same-length}
 
 -- near as a test and as a bound
 pub near-sum : (π : Projection) (w m x : ℕ) → isNear π w m x ≡ true → sum π w m x ≤ 7
@@ -63,14 +65,16 @@ module _ (π : Projection) (w m : ℕ) where
       first e = ap (λ (b : Bool). cond b (answer k) (nearFrom π w m n (suc k))) e
 
       later : (i : ℕ) → isNear π w m (encode π k) ≡ false → isNear π w m (encode π i) ≡ true → k ≤ i → k < i
-      later i e t h = ⊎-elim (λ (q : k ≡ i). absurd (false≢true (sym e ∙ ap (λ (j : ℕ). isNear π w m (encode π j)) q ∙ t))) (λ l. l) (eq-or-lt-of-le h)
+      later i e t h =
+          ⊎-elim (λ (q : k ≡ i). absurd (false≢true (sym e ∙ ap (λ (j : ℕ). isNear π w m (encode π j)) q ∙ t))) (λ l. l) (eq-or-lt-of-le h)
 
       go : (b : Bool) → isNear π w m (encode π k) ≡ b → Stops n (suc k) ⊎ Misses n (suc k) → Stops (suc n) k ⊎ Misses (suc n) k
       go true e s = inl (record { at = k; low = omega arith; high = omega arith; close = e; gives = first e })
-      go false e (inl s) = inl (record { at = s .at; low = omega (arith, s .low); high = omega (arith, s .high); close = s .close; gives = first e ∙ s .gives })
+      go false e (inl s) =
+          inl (record { at = s .at; low = omega (arith, s .low); high = omega (arith, s .high); close = s .close; gives = first e ∙ s .gives })
       go false e (inr s) = inr (record { empty = λ i a b t. s .empty i (later i e t a) (omega arith) t; gives = first e ∙ s .gives })
 
-  -- what it gives is a message's codeword, that is near
+  -- what mending gives is the codeword of a message of the code, and near
   pub mended : (x n a b : ℕ) → mend π w m ≡ near x n a b →
       (n < 2 ^ messageBits π) × (x ≡ encode π n) × (a ≡ wrong π w m x) × (b ≡ ones π m) × (isNear π w m x ≡ true)
   mended x n a b e = go (searched (2 ^ messageBits π) 0)
@@ -81,9 +85,24 @@ module _ (π : Projection) (w m : ℕ) where
           let message : s .at ≡ n = cc (s .gives) in
           let codeword : encode π (s .at) ≡ x = cc (s .gives) in
           let count : wrong π w m (encode π (s .at)) ≡ a = cc (s .gives) in
-          let marks : ones π m ≡ b = cc (s .gives) in
-          (omega (arith, s .high), sym codeword ∙ ap (encode π) message, sym count ∙ ap (wrong π w m) codeword, sym marks, sym (ap (isNear π w m) codeword) ∙ s .close)
+          let marks : ones π m ≡ b = cc (s .gives) in (
+            omega (arith, s .high),
+            sym codeword ∙ ap (encode π) message,
+            sym count ∙ ap (wrong π w m) codeword,
+            sym marks,
+            sym (ap (isNear π w m) codeword) ∙ s .close,
+          )
       go (inr s) = let z : _≡_ {A = ℕ} 0 1 = cc (s .gives) in absurd (omega arith)
+
+  -- within three positions of a filling lies a codeword whose sum is at most 7, or no codeword
+  pub fitting-near : (f x : ℕ) → Within π (isCodeword π) 3 f x → sum π w m x ≤ 7 → NearWithin π w m 3 f x
+  fitting-near f x a h = record { is = record { fits = a .fits; codeword = a .passes; near = sum-near π w m x h }; close = a .close }
+
+  within-of : (f y : ℕ) → NearWithin π w m 3 f y → Within π (isCodeword π) 3 f y
+  within-of f y b = record { fits = b .is .fits; passes = b .is .codeword; close = b .close }
+
+  pub fitting-none : (f : ℕ) → ((x : ℕ) → Within π (isCodeword π) 3 f x → ⊥) → (y : ℕ) → NearWithin π w m 3 f y → ⊥
+  fitting-none f empty y b = empty y (within-of f y b)
 
   module _ (sys : Systematic π) (far : Apart π) where
     of-message : (i : ℕ) → isNear π w m (encode π i) ≡ true → Near π w m (encode π i)
@@ -102,6 +121,7 @@ module _ (π : Projection) (w m : ℕ) where
         let same = one-codeword π far w m x y hx (b .fits) kx (b .codeword) (omega arith) in
         omega (arith, ap (sum π w m) same)
 
+    -- mending gives the near codeword; it gives nothing where none is near, and only there
     pub mend-near : (x : ℕ) → Near π w m x → mend π w m ≡ near x (decode π x) (wrong π w m x) (ones π m)
     mend-near x c = go (searched (2 ^ messageBits π) 0)
       where
@@ -133,32 +153,26 @@ module _ (π : Projection) (w m : ℕ) where
         sum-twice : (x : ℕ) → sum π f 0 x ≡ 2 * distance (word π f) (word π x)
         sum-twice x =
             sym (filled π f 0 x)
-            ∙ ap₂ (λ (a b : ℕ). distance (word π a) (word π x) + distance (word π b) (word π x)) (xor-zero-r (bitOr f 0) ∙ or-zero-r f) (or-zero-r f) ∙ omega arith
+            ∙ ap₂ (λ (a b : ℕ). distance (word π a) (word π x) + distance (word π b) (word π x)) (xor-zero-r (bitOr f 0) ∙ or-zero-r f) (or-zero-r f)
+            ∙ omega arith
 
-    -- what was found within three positions of a filling is near, or nothing near is
-    pub fitting-near : (f x : ℕ) → Within π (isCodeword π) 3 f x → sum π w m x ≤ 7 → NearWithin π w m 3 f x
-    fitting-near f x a h = record { is = record { fits = a .fits; codeword = a .passes; near = sum-near π w m x h }; close = a .close }
-
-    within-of : (f y : ℕ) → NearWithin π w m 3 f y → Within π (isCodeword π) 3 f y
-    within-of f y b = record { fits = b .is .fits; passes = b .is .codeword; close = b .close }
-
+    -- where the codeword within three positions of a filling is not near, no near one is within three
     pub fitting-far : (f x : ℕ) → Within π (isCodeword π) 3 f x → 7 < sum π w m x → (y : ℕ) → NearWithin π w m 3 f y → ⊥
     fitting-far f x a h y b =
         let same = one-within f x y a (within-of f y b) in
         let close = near-sum π w m y (b .is .near) in
         omega (arith, ap (sum π w m) same)
 
-    pub fitting-none : (f : ℕ) → ((x : ℕ) → Within π (isCodeword π) 3 f x → ⊥) → (y : ℕ) → NearWithin π w m 3 f y → ⊥
-    fitting-none f empty y b = empty y (within-of f y b)
-
   -- one of the two fillings is within three positions of a near codeword
-  pub fillings : ((y : ℕ) → NearWithin π w m 3 (bitXor (bitOr w m) m) y → ⊥) → ((y : ℕ) → NearWithin π w m 3 (bitOr w m) y → ⊥) →
+  pub neither-filling : ((y : ℕ) → NearWithin π w m 3 (bitXor (bitOr w m) m) y → ⊥) → ((y : ℕ) → NearWithin π w m 3 (bitOr w m) y → ⊥) →
       (y : ℕ) → Near π w m y → ⊥
-  fillings zeros ones y c = go (leb (distance (word π (bitXor (bitOr w m) m)) (word π y)) 3) refl
+  neither-filling zeros ones y c = go (leb (distance (word π (bitXor (bitOr w m) m)) (word π y)) 3) refl
     where
       go : (b : Bool) → leb (distance (word π (bitXor (bitOr w m) m)) (word π y)) 3 ≡ b → ⊥
       go true e = zeros y (record { is = c; close = leb-true _ 3 e })
-      go false e = ones y (record { is = c; close = omega (arith, leb-false (distance (word π (bitXor (bitOr w m) m)) (word π y)) 3 e, near-sum π w m y (c .near), filled π w m y) })
+      go false e =
+          let far = leb-false (distance (word π (bitXor (bitOr w m) m)) (word π y)) 3 e in
+          ones y (record { is = c; close = omega (arith, near-sum π w m y (c .near), filled π w m y) })
 
   -- where nothing is marked the two are one
   pub one-filling : m ≡ 0 → ((y : ℕ) → NearWithin π w m 3 (bitXor (bitOr w m) m) y → ⊥) → (y : ℕ) → NearWithin π w m 3 (bitOr w m) y → ⊥
@@ -170,7 +184,7 @@ module _ (π : Projection) (w m : ℕ) where
   pub many-marks : 7 < ones π m → (y : ℕ) → Near π w m y → ⊥
   many-marks h y c = omega (arith, near-sum π w m y (c .near))
 
--- a word that is a codeword with positions f inverted is wrong in those that are not marked
+-- in the word that is a codeword with positions f inverted, wrong is the number of those that are not marked
 column-twice : (c d : Column) → c ⊕ (c ⊕ d) ≡ d
 column-twice c d = law (columns ⊗ columns) (Column-discrete Bool-discrete) (λ (c, d). c ⊕ (c ⊕ d)) (λ (c, d). d) tt (c, d)
 

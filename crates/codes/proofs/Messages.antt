@@ -1,15 +1,16 @@
--- Messages and words as numbers: what holds of lists of columns, of the numbers that the calls take and give.
+-- Messages and words as numbers: what holds of lists of columns holds of the numbers that the calls take and give.
 -- A message's number has p highest, then the free values in base 4, then the top bits in base 2, so that its parts are quotients
--- and remainders by powers of two.
+-- and remainders by powers of two. A word's number has its columns for digits in base 16. So a message below the code's limit, a message
+-- as its parts, its codeword's columns and the codeword's number are all each other's.
 -- Assumes nothing.
 use mathlib.Core.Path.{_≡_, sym, ap, ap₂, _∙_, subst}
 use mathlib.Core.Bool.{Bool, true}
 use mathlib.Core.List.{List}
 use Prim.Native.Nat.{ℕ, _+_, _*_, _/_, _%_, _^_, _≤_, _<_}
-use native.Mathlib.Nat.{mod-eq-of-lt, div-add-mod', div-div-eq-div-mul, mul-comm, lt-of-lt-of-le}
+use native.Mathlib.Nat.{add-comm, mod-eq-of-lt, div-add-mod', lt-of-lt-of-le}
 use native.Mathlib.Omega.{arith}
 use lib.Arith.{digits-lt, digits-div, digits-mod, mod-mul}
-use lib.Dec.{eqb, lit<}
+use lib.Dec.{lit<}
 use lib.ListN.{length}
 use lib.Pow.{pow-add, pow-mono, shr-lt}
 use Rattle.symbols.specs.Symbol.{bit}
@@ -18,38 +19,32 @@ use Rattle.codes.specs.Digits.{bits, symbols, columns, digits, numberOf}
 use Rattle.codes.specs.Projection.{Projection, count, size, width, topBits, messageBits}
 use Rattle.codes.specs.Word.{word, wordNumber, isCodeword}
 use Rattle.codes.specs.Message.{Message, messageOf, messageNumber, messageIn, codewordOf, encode, decode}
-use Rattle.codes.proofs.Digits.{bits-fit, symbols-fit, columns-fit, length-digits, place-pos, number-digits, number-lt, digits-remainder, digits-again, number-again}
-use Rattle.codes.proofs.Sums.{pow-mul}
-use Rattle.codes.proofs.Words.{Codeword, parity-of, is-codeword}
+use Rattle.codes.proofs.Digits.{bits-fit, symbols-fit, columns-fit, length-digits, place-pos, number-lt}
+use Rattle.codes.proofs.Digits.{number-digits, digits-remainder, digits-again, number-again, pow-mul, shift-shift, bit-at}
+use Rattle.codes.proofs.Words.{Codeword, codeword-parity, is-codeword, length-word}
 use Rattle.codes.proofs.Placing.{Systematic}
-use Rattle.codes.proofs.Encoding.{Sized, length-codeword, codeword-is, message-of-codeword, sized, codeword-of-message}
+use Rattle.codes.proofs.Encoding.{Sized, length-codeword, message-codeword, message-of-codeword, sized, codeword-of-message}
 
 module _ (π : Projection) where
+  -- the number of free values, and of the top bits that a message has
   abbrev F : ℕ
   F = count (π .free)
 
   abbrev K : ℕ
   K = topBits π
 
-  -- four to the power of the free values
-  fours : 4 ^ count (π .free) ≡ 2 ^ (2 * count (π .free))
-  fours = pow-mul 2 2 F
-
-  pub message-sized : (n : ℕ) → Sized π (messageOf π n)
+  message-sized : (n : ℕ) → Sized π (messageOf π n)
   message-sized n = record { values = length-digits symbols F (n / 2 ^ K); tops = length-digits bits K n }
 
   -- p is the bit above the values
-  high-bit : (n : ℕ) → bit (2 * count (π .free) + topBits π) n ≡ bit 0 (n / 2 ^ topBits π / 4 ^ count (π .free))
-  high-bit n =
-      let e : n / 2 ^ (2 * F + K) ≡ n / 2 ^ K / 4 ^ F / 1 =
-      ap (λ (x : ℕ). n / x) (pow-add 2 (2 * F) K ∙ mul-comm (2 ^ (2 * F)) (2 ^ K)) ∙ sym (div-div-eq-div-mul n (2 ^ K) (2 ^ (2 * F)))
-      ∙ ap (λ (x : ℕ). n / 2 ^ K / x) (sym fours) ∙ omega arith in
-      ap (λ (x : ℕ). eqb (x % 2) 1) e
+  high-bit : (n : ℕ) → messageOf π n .parity ≡ bit 0 (n / 2 ^ topBits π / 4 ^ count (π .free))
+  high-bit n = ap (λ (k : ℕ). bit k n) (add-comm (2 * F) K) ∙ sym (bit-at (K + 2 * F) n) ∙ ap (bit 0) (sym (shift-shift n K F))
 
   -- p and the values together
   twice-fours : 2 ^ (1 + 2 * count (π .free)) ≡ 2 * 4 ^ count (π .free)
-  twice-fours = pow-add 2 1 (2 * F) ∙ ap (λ (x : ℕ). 2 * x) (sym fours)
+  twice-fours = pow-add 2 1 (2 * F) ∙ ap (λ (x : ℕ). 2 * x) (sym (pow-mul 2 2 F))
 
+  -- a message's number, and the message of a number
   pub message-number : (n : ℕ) → n < 2 ^ messageBits π → messageNumber π (messageOf π n) ≡ n
   message-number n h =
       let q = n / 2 ^ K in
@@ -61,37 +56,41 @@ module _ (π : Projection) where
       ap₂ (λ (x y : ℕ). x * 2 ^ K + y) high (number-digits bits bits-fit K n) ∙ div-add-mod' n (2 ^ K)
 
   module _ (m : Message) (s : Sized π m) where
+    -- the number of p and the values; below it are the top bits, and below p the values
     abbrev A : ℕ
     A = one (m .parity) * 4 ^ F + numberOf symbols (m .values)
 
-    low : numberOf bits (m .tops) < 2 ^ topBits π
-    low = subst (λ (k : ℕ). numberOf bits (m .tops) < 2 ^ k) (s .tops) (number-lt bits bits-fit (m .tops))
+    tops-lt : numberOf bits (m .tops) < 2 ^ topBits π
+    tops-lt = subst (λ (k : ℕ). numberOf bits (m .tops) < 2 ^ k) (s .tops) (number-lt bits bits-fit (m .tops))
 
-    middle : numberOf symbols (m .values) < 4 ^ count (π .free)
-    middle = subst (λ (k : ℕ). numberOf symbols (m .values) < 4 ^ k) (s .values) (number-lt symbols symbols-fit (m .values))
+    values-lt : numberOf symbols (m .values) < 4 ^ count (π .free)
+    values-lt = subst (λ (k : ℕ). numberOf symbols (m .values) < 4 ^ k) (s .values) (number-lt symbols symbols-fit (m .values))
 
     pub message-below : messageNumber π m < 2 ^ messageBits π
     message-below =
         subst (λ (x : ℕ). messageNumber π m < x) (sym (pow-add 2 (1 + 2 * F) K))
-        (digits-lt (subst (λ (x : ℕ). A < x) (sym twice-fours) (digits-lt (bits-fit .small (m .parity)) middle)) low)
+        (digits-lt (subst (λ (x : ℕ). A < x) (sym twice-fours) (digits-lt (bits-fit .small (m .parity)) values-lt)) tops-lt)
 
     pub number-message : messageOf π (messageNumber π m) ≡ m
     number-message =
-        let high : messageNumber π m / 2 ^ K ≡ A = digits-div A low in
+        let high : messageNumber π m / 2 ^ K ≡ A = digits-div A tops-lt in
         let ep : bit (2 * F + K) (messageNumber π m) ≡ m .parity =
         high-bit (messageNumber π m) ∙ ap (λ (x : ℕ). bit 0 (x / 4 ^ F)) high
-        ∙ ap (bit 0) (digits-div (one (m .parity)) middle) ∙ bits-fit .back (m .parity) in
+        ∙ ap (bit 0) (digits-div (one (m .parity)) values-lt) ∙ bits-fit .back (m .parity) in
         let ev : digits symbols F (messageNumber π m / 2 ^ K) ≡ m .values =
         ap (digits symbols F) high ∙ sym (digits-remainder symbols symbols-fit F A)
-        ∙ ap (digits symbols F) (digits-mod (one (m .parity)) middle) ∙ digits-again symbols symbols-fit F (m .values) (s .values) in
+        ∙ ap (digits symbols F) (digits-mod (one (m .parity)) values-lt) ∙ digits-again symbols symbols-fit F (m .values) (s .values) in
         let et : digits bits K (messageNumber π m) ≡ m .tops =
         sym (digits-remainder bits bits-fit K (messageNumber π m))
-        ∙ ap (digits bits K) (digits-mod A low) ∙ digits-again bits bits-fit K (m .tops) (s .tops) in
+        ∙ ap (digits bits K) (digits-mod A tops-lt) ∙ digits-again bits bits-fit K (m .tops) (s .tops) in
         λ i. record { parity = ep i; values = ev i; tops = et i }
 
-  -- words have the code's width
+  -- a word is a number of m digits in base 16, and the number of its columns
   sixteens : 16 ^ size π ≡ 2 ^ width π
   sixteens = pow-mul 2 4 (size π)
+
+  pub number-word : (x : ℕ) → x < 2 ^ width π → wordNumber (word π x) ≡ x
+  number-word x h = number-again columns columns-fit (size π) x (subst (λ (b : ℕ). x < b) (sym sixteens) h)
 
 -- ten columns make a word of at most 40 bits
 pub word-below : (cs : List Column) → length cs ≤ 10 → wordNumber cs < 2 ^ 40
@@ -100,27 +99,27 @@ word-below cs h =
     (subst (λ (x : ℕ). x ≤ 2 ^ 40) (sym (pow-mul 2 4 (length cs))) (pow-mono {i = 4 * length cs} {j = 40} (omega arith)))
 
 -- two words with the same columns are one
-pub same-columns : (π : Projection) (x y : ℕ) → x < 2 ^ width π → y < 2 ^ width π → word π x ≡ word π y → x ≡ y
-same-columns π x y hx hy e =
-    sym (number-again columns columns-fit (size π) x (subst (λ (b : ℕ). x < b) (sym (sixteens π)) hx))
-    ∙ ap wordNumber e ∙ number-again columns columns-fit (size π) y (subst (λ (b : ℕ). y < b) (sym (sixteens π)) hy)
+pub word-injective : (π : Projection) (x y : ℕ) → x < 2 ^ width π → y < 2 ^ width π → word π x ≡ word π y → x ≡ y
+word-injective π x y hx hy e = sym (number-word π x hx) ∙ ap wordNumber e ∙ number-word π y hy
 
 module _ (π : Projection) (sys : Systematic π) where
-  -- the columns of a message's codeword
-  pub word-encode : (n : ℕ) → word π (encode π n) ≡ codewordOf π (messageOf π n)
+  -- a message's codeword has its columns, fits, is a codeword, and says the message again
+  word-encode : (n : ℕ) → word π (encode π n) ≡ codewordOf π (messageOf π n)
   unfolding encode
-  word-encode n = digits-again columns columns-fit (size π) (codewordOf π (messageOf π n)) (length-codeword π sys (messageOf π n) (message-sized π n))
+  word-encode n =
+      digits-again columns columns-fit (size π) (codewordOf π (messageOf π n)) (length-codeword π sys (messageOf π n) (message-sized π n))
 
   pub encode-below : (n : ℕ) → encode π n < 2 ^ width π
   unfolding encode
   encode-below n =
       subst (λ (x : ℕ). encode π n < x) (sixteens π)
-      (subst (λ (k : ℕ). encode π n < 16 ^ k) (length-codeword π sys (messageOf π n) (message-sized π n)) (number-lt columns columns-fit (codewordOf π (messageOf π n))))
+      (subst (λ (k : ℕ). encode π n < 16 ^ k) (length-codeword π sys (messageOf π n) (message-sized π n))
+      (number-lt columns columns-fit (codewordOf π (messageOf π n))))
 
   pub encode-codeword : (n : ℕ) → isCodeword π (word π (encode π n)) ≡ true
   encode-codeword n =
       ap (isCodeword π) (word-encode n)
-      ∙ is-codeword π (messageOf π n .parity) (codewordOf π (messageOf π n)) (codeword-is π sys (messageOf π n) (message-sized π n))
+      ∙ is-codeword π (messageOf π n .parity) (codewordOf π (messageOf π n)) (message-codeword π sys (messageOf π n) (message-sized π n))
 
   pub decode-encode : (n : ℕ) → n < 2 ^ messageBits π → decode π (encode π n) ≡ n
   unfolding decode
@@ -129,14 +128,15 @@ module _ (π : Projection) (sys : Systematic π) where
       ∙ ap (messageNumber π) (message-of-codeword π sys (messageOf π n) (message-sized π n)) ∙ message-number π n h
 
   module _ (x : ℕ) (h : x < 2 ^ width π) (c : isCodeword π (word π x) ≡ true) where
+    -- a codeword's columns, its parity, and the sizes of what they say
     abbrev cs : List Column
     cs = word π x
 
     parts : (p : Bool) × Codeword π p (word π x)
-    parts = parity-of π cs c
+    parts = codeword-parity π cs c
 
     fit : Sized π (messageIn π (word π x))
-    fit = sized π sys cs (length-digits columns (size π) x)
+    fit = sized π sys cs (length-word π x)
 
     pub decode-below : decode π x < 2 ^ messageBits π
     unfolding decode
@@ -145,6 +145,6 @@ module _ (π : Projection) (sys : Systematic π) where
     pub encode-decode : encode π (decode π x) ≡ x
     unfolding encode decode
     encode-decode =
-        ap (λ (m : Message). numberOf columns (codewordOf π m)) (number-message π (messageIn π cs) fit)
-        ∙ ap (numberOf columns) (codeword-of-message π sys (parts .0) cs (length-digits columns (size π) x) (parts .1))
-        ∙ number-again columns columns-fit (size π) x (subst (λ (y : ℕ). x < y) (sym (sixteens π)) h)
+        ap (λ (m : Message). wordNumber (codewordOf π m)) (number-message π (messageIn π cs) fit)
+        ∙ ap wordNumber (codeword-of-message π sys (parts .0) cs (length-word π x) (parts .1))
+        ∙ number-word π x h

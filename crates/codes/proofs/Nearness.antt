@@ -1,8 +1,9 @@
--- Near codewords. Two codewords differ in at most wrong + wrong' + marks positions: each unmarked one is wrong in one of the two.
+-- Near codewords. Two codewords differ in at most wrong + wrong' + marks positions: at an unmarked one, one of the two is wrong.
 -- So where their sums 2·wrong + marks add up to at most 15 they differ in at most seven positions and are one: at most one codeword is
--- near, and a codeword whose sum is 8 is near to nothing and keeps every other from being near.
+-- near, and a codeword whose sum is 8 keeps every other from being near.
 -- The marked bits filled with zeros, and with ones, give two words whose distances from a codeword add up to its sum: a position that is
 -- wrong counts in both, a marked one in just one of them. So one of the two is within three positions of a near codeword.
+-- The ones of a number are those of its columns, so that wrong and marks can be counted on numbers.
 -- Assumes nothing.
 use mathlib.Core.Path.{_≡_, refl, sym, ap, ap₂, _∙_, subst}
 use mathlib.Core.Bool.{Bool, not, _&&_, _||_, true}
@@ -12,35 +13,26 @@ use native.Mathlib.Omega.{arith}
 use lib.Bits.{bitXor, bitOr}
 use lib.Count.{ones-cat}
 use lib.Count as count
-use lib.Dec.{leb, leb→le, eqb, eqb→eq}
 use lib.ListN.{length}
 use Rattle.symbols.specs.Symbol.{_⊻_}
-use Rattle.symbols.specs.Column.{Column, column, one, weight, _⊕_, columnNumber}
-use Rattle.symbols.proofs.Every.{bits, columns as all-columns, _⊗_}
+use Rattle.symbols.specs.Column.{Column, column, one, weight, _⊕_, columnOf, columnNumber}
+use Rattle.symbols.proofs.Every.{bits, columns as all-columns, _⊗_, law, law-le, number-discrete}
 use Rattle.symbols.proofs.Columns.{weight-le}
 use Rattle.codes.specs.Digits.{columns, numberOf}
-use Rattle.codes.specs.Projection.{Projection, size, width}
+use Rattle.codes.specs.Projection.{Projection, width}
 use Rattle.codes.specs.Word.{word, _⊞_, isCodeword, weightOf, distance}
 use Rattle.codes.specs.Mending.{outsideIn, outside, wrong, ones}
-use Rattle.codes.proofs.Digits.{columns-fit, length-digits, number-again, number-lt}
-use Rattle.codes.proofs.Words.{parity-of}
+use Rattle.codes.proofs.Digits.{columns-fit, number-lt, pow-mul}
+use Rattle.codes.proofs.Words.{length-word, same-length, codeword-parity}
 use Rattle.codes.proofs.Distance.{Apart, close-same}
-use Rattle.codes.proofs.Messages.{same-columns}
-use Rattle.codes.proofs.Flips.{blank}
-use Rattle.codes.proofs.Sums.{pow-mul, zip, orIn, word-xor, word-or}
+use Rattle.codes.proofs.Messages.{number-word, word-injective}
+use Rattle.codes.proofs.Sums.{zip, orIn, word-xor, word-or}
 
--- a word's number is that of its columns
-number-word : (π : Projection) (x : ℕ) → x < 2 ^ width π → numberOf columns (word π x) ≡ x
-number-word π x h = number-again columns columns-fit (size π) x (subst (λ (n : ℕ). x < n) (sym (pow-mul 2 4 (size π))) h)
-
-pub same-length : (π : Projection) (x y : ℕ) → length (word π x) ≡ length (word π y)
-same-length π x y = length-digits columns (size π) x ∙ sym (length-digits columns (size π) y)
-
--- two words that differ, unmarked, from a third
+-- two words differ at most in the marked positions and in those, unmarked, where one of them differs from a third: a bit, a column, a word
 between-bit : (a b w m : Bool) → one (a ⊻ b) ≤ one ((a ⊻ w) && not m) + one ((b ⊻ w) && not m) + one m
 between-bit a b w m =
-    leb→le _ _
-    ((bits ⊗ bits ⊗ bits ⊗ bits) .at (λ (a, (b, (w, m))). leb (one (a ⊻ b)) (one ((a ⊻ w) && not m) + one ((b ⊻ w) && not m) + one m)) tt (a, (b, (w, m))))
+    law-le (bits ⊗ bits ⊗ bits ⊗ bits) (λ (a, (b, (w, m))). one (a ⊻ b))
+    (λ (a, (b, (w, m))). one ((a ⊻ w) && not m) + one ((b ⊻ w) && not m) + one m) tt (a, (b, (w, m)))
 
 between-column : (a b w m : Column) → weight (a ⊕ b) ≤ outsideIn (a ⊕ w) m + outsideIn (b ⊕ w) m + weight m
 between-column (column a b c d) (column a′ b′ c′ d′) (column w x y z) (column k l m n) =
@@ -52,26 +44,28 @@ between [] b w m ea eb em = omega arith
 between (a ∷ xs) [] w m ea eb em = omega arith
 between (a ∷ xs) (b ∷ ys) [] m ea eb em = absurd (omega arith)
 between (a ∷ xs) (b ∷ ys) (w ∷ ws) [] ea eb em = absurd (omega arith)
-between (a ∷ xs) (b ∷ ys) (w ∷ ws) (m ∷ ms) ea eb em = omega (arith, between-column a b w m, between xs ys ws ms (omega arith) (omega arith) (omega arith))
+between (a ∷ xs) (b ∷ ys) (w ∷ ws) (m ∷ ms) ea eb em =
+    omega (arith, between-column a b w m, between xs ys ws ms (omega arith) (omega arith) (omega arith))
 
 -- what has to be at most 7 for a codeword to be near
 abbrev pub sum : Projection → ℕ → ℕ → ℕ → ℕ
 sum π w m x = 2 * wrong π w m x + ones π m
 
+-- two codewords whose sums come to at most 15 are one
 pub one-codeword : (π : Projection) → Apart π → (w m x y : ℕ) → x < 2 ^ width π → y < 2 ^ width π →
     isCodeword π (word π x) ≡ true → isCodeword π (word π y) ≡ true → sum π w m x + sum π w m y ≤ 15 → x ≡ y
 one-codeword π far w m x y hx hy kx ky h =
-    let p = parity-of π (word π x) kx in
-    let q = parity-of π (word π y) ky in
+    let p = codeword-parity π (word π x) kx in
+    let q = codeword-parity π (word π y) ky in
     let near = between (word π x) (word π y) (word π w) (word π m) (same-length π x w) (same-length π y w) (same-length π m w) in
-    same-columns π x y hx hy
-    (close-same π far (p .0) (q .0) (word π x) (word π y) (length-digits columns (size π) x) (length-digits columns (size π) y) (p .1) (q .1) (omega arith))
+    word-injective π x y hx hy
+    (close-same π far (p .0) (q .0) (word π x) (word π y) (length-word π x) (length-word π y) (p .1) (q .1) (omega arith))
 
--- the marked bits filled with ones, and with zeros
+-- the word w with its marked bits filled with zeros, and with ones: the distances from c
 filled-bit : (c w m : Bool) → one ((w || m) ⊻ m ⊻ c) + one ((w || m) ⊻ c) ≡ 2 * one ((c ⊻ w) && not m) + one m
 filled-bit c w m =
-    eqb→eq _ _
-    ((bits ⊗ bits ⊗ bits) .at (λ (c, (w, m)). eqb (one ((w || m) ⊻ m ⊻ c) + one ((w || m) ⊻ c)) (2 * one ((c ⊻ w) && not m) + one m)) tt (c, (w, m)))
+    law (bits ⊗ bits ⊗ bits) number-discrete (λ (c, (w, m)). one ((w || m) ⊻ m ⊻ c) + one ((w || m) ⊻ c))
+    (λ (c, (w, m)). 2 * one ((c ⊻ w) && not m) + one m) tt (c, (w, m))
 
 filled-column : (c w m : Column) → weight (orIn w m ⊕ m ⊕ c) + weight (orIn w m ⊕ c) ≡ 2 * outsideIn (c ⊕ w) m + weight m
 filled-column (column a b c d) (column w x y z) (column k l m n) =
@@ -95,7 +89,7 @@ filled π w m x =
 
 -- the ones outside the marks, with the marks set and taken away again
 outside-bit : (a m : Bool) → one ((a || m) ⊻ m) ≡ one (a && not m)
-outside-bit a m = eqb→eq _ _ ((bits ⊗ bits) .at (λ (a, m). eqb (one ((a || m) ⊻ m)) (one (a && not m))) tt (a, m))
+outside-bit a m = law (bits ⊗ bits) number-discrete (λ (a, m). one ((a || m) ⊻ m)) (λ (a, m). one (a && not m)) tt (a, m)
 
 outside-column : (c m : Column) → weight (orIn c m ⊕ m) ≡ outsideIn c m
 outside-column (column a b c d) (column k l m n) = omega (arith, outside-bit a k, outside-bit b l, outside-bit c m, outside-bit d n)
@@ -108,19 +102,21 @@ outside-list (c ∷ cs) (m ∷ ms) = ap₂ _+_ (outside-column c m) (outside-lis
 -- the ones of a number are those of its columns
 count-column : (c : Column) → count.ones (columnNumber c) ≡ weight c
 unfolding count.ones count.onesIn
-count-column c = eqb→eq _ _ (all-columns .at (λ c. eqb (count.ones (columnNumber c)) (weight c)) tt c)
+count-column c = law all-columns number-discrete (λ c. count.ones (columnNumber c)) weight tt c
 
 count-number : (cs : List Column) → count.ones (numberOf columns cs) ≡ weightOf cs
-count-number [] = count-column blank
+count-number [] = count-column (columnOf 0)
 count-number (c ∷ cs) =
     let power : 16 ^ length cs ≡ 2 ^ (4 * length cs) = pow-mul 2 4 (length cs) in
     ap (λ (n : ℕ). count.ones (columnNumber c * n + numberOf columns cs)) power
-    ∙ ones-cat (4 * length cs) (columnNumber c) (numberOf columns cs) (subst (λ (n : ℕ). numberOf columns cs < n) power (number-lt columns columns-fit cs))
+    ∙ ones-cat (4 * length cs) (columnNumber c) (numberOf columns cs)
+    (subst (λ (n : ℕ). numberOf columns cs < n) power (number-lt columns columns-fit cs))
     ∙ ap₂ _+_ (count-column c) (count-number cs)
 
 pub count-ones : (π : Projection) (x : ℕ) → x < 2 ^ width π → count.ones x ≡ ones π x
 count-ones π x h = ap count.ones (sym (number-word π x h)) ∙ count-number (word π x)
 
+-- the ones that are left are as many as positions are wrong
 pub ones-wrong : (π : Projection) (w m x : ℕ) → ones π (bitXor (bitOr (bitXor x w) m) m) ≡ wrong π w m x
 ones-wrong π w m x =
     ap weightOf (word-xor π (bitOr (bitXor x w) m) m
@@ -133,7 +129,7 @@ weight-length [] = omega arith
 weight-length (c ∷ cs) = omega (arith, weight-le c, weight-length cs)
 
 pub ones-le : (π : Projection) (x : ℕ) → ones π x ≤ width π
-ones-le π x = omega (arith, weight-length (word π x), length-digits columns (size π) x)
+ones-le π x = omega (arith, weight-length (word π x), length-word π x)
 
 pub wrong-le : (π : Projection) (w m x : ℕ) → wrong π w m x ≤ width π
 wrong-le π w m x = omega (arith, ones-wrong π w m x, ones-le π (bitXor (bitOr (bitXor x w) m) m))

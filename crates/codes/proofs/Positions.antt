@@ -1,18 +1,20 @@
--- Positions of a word, counted from its highest bit, are the rows of its columns: column c is the digit of 16^(m−c), row r of it the digit of 2^(3−r).
+-- Positions of a word, counted from its highest bit, are the rows of its columns: of m columns, column c is the digit of 16^(m−c), and row r
+-- of it the digit of 2^(3−r).
 -- Assumes nothing.
 use mathlib.Core.Path.{_≡_, refl, sym, _∙_}
 use Prim.Native.Nat.{ℕ, zero, suc, _+_, _-_, _*_, _/_, _%_, _^_, _<_}
-use native.Mathlib.Nat.{mod-lt, mul-suc, pow-suc}
+use native.Mathlib.Nat.{mod-lt}
 use native.Mathlib.Omega.{arith}
 use lib.Dec.{eqb, lit<}
 use lib.ListN.{getD}
-use lib.Pow.{shr-shr, pow-add}
+use lib.Pow.{shr-shr}
 use Rattle.symbols.specs.Symbol.{bit}
 use Rattle.symbols.specs.Column.{columnOf, one}
 use Rattle.symbols.proofs.Every.{law-below, number-discrete}
 use Rattle.codes.specs.Digits.{Digit, columns, digits}
 use Rattle.codes.specs.Projection.{size, width}
 use Rattle.codes.specs.Claims.{rows, Positions}
+use Rattle.codes.proofs.Digits.{pow-mul}
 
 -- a digit of a number
 digit-at : {A : Type 0} (d : Digit A) (k n i : ℕ) (x : A) → i < k → getD (digits d k n) i x ≡ d .lowest (n / d .base ^ (k - 1 - i))
@@ -31,13 +33,9 @@ row-at n (suc (suc zero)) h = one-bit 1 n
 row-at n (suc (suc (suc zero))) h = one-bit 0 n
 row-at n (suc (suc (suc (suc r)))) h = absurd (omega arith)
 
-sixteens : (k : ℕ) → 16 ^ k ≡ 2 ^ (4 * k)
-sixteens zero = refl
-sixteens (suc k) = pow-suc 16 k ∙ rw (sixteens k, mul-suc 4 k) (sym (pow-add 2 (4 * k) 4))
-
 pub positions : Positions
 positions π n c r first last h =
     let above : 4 * (size π - 1 - (c - 1)) + (3 - r) ≡ width π - 1 - (4 * (c - 1) + r) = omega arith in
     let column = digit-at columns (size π) n (c - 1) (columnOf 0) (omega arith) in
     sym (rw column (row-at (n / 16 ^ (size π - 1 - (c - 1))) r h
-    ∙ rw (sixteens (size π - 1 - (c - 1)), shr-shr n (4 * (size π - 1 - (c - 1))) (3 - r), above)))
+    ∙ rw (pow-mul 2 4 (size π - 1 - (c - 1)), shr-shr n (4 * (size π - 1 - (c - 1))) (3 - r), above)))

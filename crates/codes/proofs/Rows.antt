@@ -1,24 +1,14 @@
--- What an answer says of the rows of refusals that stand before it, and of tests that have parts. The layers above cite this file.
+-- What an answer says of the rows of refusals that stand before it. The layers above cite this file.
 -- An accepted answer has passed every row; a refused one has the number of a row, or comes from what stands behind the rows.
 -- Assumes nothing.
 use Prim.Native.Nat.{ℕ}
 use mathlib.Core.Path.{_≡_, refl}
-use mathlib.Core.Bool.{Bool, true, false, cond, _&&_, _||_}
+use mathlib.Core.Bool.{Bool, true, false, cond}
 use mathlib.Core.Logic.{_⊎_, inl, inr, ⊎-elim}
 use mathlib.Core.List.{List, [], _∷_}
 use native.Mathlib.Omega.{arith}
 use Rattle.codes.specs.Answer.{Answer, accepted, refused, Row, unless}
 use Rattle.codes.specs.Claims.{Among}
-
--- ---- tests of two parts
-
-pub and-true : (s t : Bool) → s && t ≡ true → (s ≡ true) × (t ≡ true)
-and-true true t e = (refl, e)
-and-true false t e = let z : _≡_ {A = ℕ} 0 1 = cc in absurd (omega arith)
-
-pub or-false : (s t : Bool) → s || t ≡ false → (s ≡ false) × (t ≡ false)
-or-false true t e = let z : _≡_ {A = ℕ} 0 1 = cc in absurd (omega arith)
-or-false false t e = (refl, e)
 
 -- ---- accepted answers
 

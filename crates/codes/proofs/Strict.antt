@@ -1,5 +1,6 @@
 -- Strict reading: whether a word is a codeword, by what the walk over its columns collects.
--- The syndrome is zero where its number is 0; all columns are even where none is odd, and all are odd where as many are as there are.
+-- The syndrome is zero just where its number is 0; all columns are even just where none is odd, and odd just where as many are odd as
+-- there are. So what the walk collects, and the number of columns, decide each part of the definition of a codeword.
 -- Assumes nothing.
 use mathlib.Core.Path.{_≡_, refl, sym, ap, ap₂, _∙_}
 use mathlib.Core.Bool.{Bool, true, false, _&&_, _||_, Bool·beq, false≢true}
@@ -16,23 +17,26 @@ use Rattle.codes.specs.Projection.{Projection, wanted, count, size}
 use Rattle.codes.specs.Word.{syndromeOf, allParity, isCodeword}
 use Rattle.codes.specs.Walk.{odds, Walked}
 use Rattle.codes.proofs.Digits.{symbols-fit, number-again}
-use Rattle.codes.proofs.Vectors.{zero-zeros, zero-is-zeros}
-use Rattle.codes.proofs.Distance.{wanted-even}
-use Rattle.codes.proofs.Walks.{digits-zero, odds-le}
+use Rattle.codes.proofs.Vectors.{zeros-zero, zero-is-zeros}
+use Rattle.codes.proofs.Words.{wanted-even}
+use Rattle.codes.proofs.Walks.{odds-le}
+use Rattle.codes.proofs.Sums.{digits-zero}
 
 zeros-number : (r : ℕ) → numberOf symbols (zeros r) ≡ 0
 zeros-number zero = refl
 zeros-number (suc r) = omega (arith, zeros-number r)
 
--- a packed vector is zero where its number is
+-- a packed vector is zero just where its number is
 packed-zero : (r s : ℕ) → s < 4 ^ r → isZeroV (digits symbols r s) ≡ eqb s 0
 packed-zero r s h = go (isZeroV (digits symbols r s)) refl
   where
     go : (b : Bool) → isZeroV (digits symbols r s) ≡ b → b ≡ eqb s 0
     go true e =
-        sym (eq-eqb s 0 (sym (number-again symbols symbols-fit r s h) ∙ ap (numberOf symbols) (zero-is-zeros (digits symbols r s) e) ∙ zeros-number (length (digits symbols r s))))
-    go false e = sym (ne-eqb s 0 (λ (z : s ≡ 0). false≢true (sym e ∙ ap isZeroV (ap (digits symbols r) z ∙ digits-zero r) ∙ zero-zeros r)))
+        sym (eq-eqb s 0 (sym (number-again symbols symbols-fit r s h)
+        ∙ ap (numberOf symbols) (zero-is-zeros (digits symbols r s) e) ∙ zeros-number (length (digits symbols r s))))
+    go false e = sym (ne-eqb s 0 (λ (z : s ≡ 0). false≢true (sym e ∙ ap isZeroV (ap (digits symbols r) z ∙ digits-zero r) ∙ zeros-zero r)))
 
+-- all columns are even, and all are odd, by the number of odd ones
 all-even : (cs : List Column) → allParity false cs ≡ eqb (odds cs) 0
 all-even [] = refl
 all-even (c ∷ cs) = go (parity c) (all-even cs)
@@ -45,11 +49,13 @@ all-odd : (cs : List Column) → allParity true cs ≡ eqb (odds cs) (length cs)
 all-odd [] = refl
 all-odd (c ∷ cs) = go (parity c) (all-odd cs)
   where
-    go : (b : Bool) → allParity true cs ≡ eqb (odds cs) (length cs) → Bool·beq b true && allParity true cs ≡ eqb (count (b ∷ map parity cs)) (suc (length cs))
+    go : (b : Bool) → allParity true cs ≡ eqb (odds cs) (length cs) →
+        Bool·beq b true && allParity true cs ≡ eqb (count (b ∷ map parity cs)) (suc (length cs))
     go true e = e ∙ sym (eqb·suc-suc (odds cs) (length cs))
     go false e = sym (ne-eqb (odds cs) (suc (length cs)) (λ (z : odds cs ≡ suc (length cs)). omega (arith, odds-le cs)))
 
--- the verdict on a word, by whether its syndrome is 0, whether no column is odd, and whether all are
+-- the verdict on a word, by whether its syndrome is 0, whether all columns are even, whether all are odd, its top row's parity, and the
+-- parity that the rule wants of an odd codeword's top row
 abbrev pub verdict : Bool → Bool → Bool → Bool → Bool → Bool
 verdict z even odd t w = z && (even && Bool·beq t false) || z && (odd && Bool·beq t w)
 
@@ -61,5 +67,5 @@ judged π cs s t n long h w =
     let even : allParity false cs ≡ eqb n 0 = all-even cs ∙ ap (λ (k : ℕ). eqb k 0) (sym (w .odd)) in
     let odd : allParity true cs ≡ eqb n (size π) = all-odd cs ∙ ap₂ eqb (sym (w .odd)) long in
     let tops = sym (w .tops) in
-    let none = wanted-even (π .rule) in
-    λ i. z i && (even i && Bool·beq (tops i) (none i)) || z i && (odd i && Bool·beq (tops i) (wanted (π .rule) true))
+    let of-even = wanted-even (π .rule) in
+    λ i. z i && (even i && Bool·beq (tops i) (of-even i)) || z i && (odd i && Bool·beq (tops i) (wanted (π .rule) true))

@@ -5,24 +5,23 @@
 use mathlib.Core.Path.{_≡_, refl, sym, ap, ap₂, _∙_}
 use mathlib.Core.Bool.{_||_, Bool-discrete}
 use mathlib.Core.List.{List, [], _∷_}
-use Prim.Native.Nat.{ℕ, zero, suc, _*_, _/_, _%_, _^_, _<_}
-use native.Mathlib.Nat.{mod-lt, mul-zero, mul-suc, pow-zero, pow-suc}
+use Prim.Native.Nat.{ℕ, zero, suc, _*_, _/_, _%_, _^_}
+use native.Mathlib.Nat.{mod-lt, zero-div}
 use lib.Bits.{bitXor, bitOr, xor-shr, xor-mod, or-shr, or-mod}
 use lib.Dec.{T}
-use lib.Pow.{pow-add}
-use Rattle.symbols.specs.Symbol.{Symbol-discrete, add}
+use Rattle.symbols.specs.Symbol.{Symbol-discrete, add, symbolOf}
 use Rattle.symbols.specs.Column.{Column, column, Column-discrete, _⊕_}
-use Rattle.symbols.proofs.Every.{below, at-below, passes, passed}
+use Rattle.symbols.proofs.Every.{below, passes, law-below-both}
 use Rattle.codes.specs.Digits.{Digit, symbols, columns, digits}
-use Rattle.codes.specs.Vector.{addV}
+use Rattle.codes.specs.Vector.{zeros, addV}
 use Rattle.codes.specs.Projection.{Projection, size}
 use Rattle.codes.specs.Word.{word, _⊞_}
-use Rattle.codes.proofs.Digits.{Fit, symbols-fit, columns-fit}
+use Rattle.codes.proofs.Digits.{Fit, symbols-fit, columns-fit, pow-mul}
 
 -- an operation on numbers that goes bit by bit
-pub record Bitwise (op : ℕ → ℕ → ℕ) : Type 0 where
-  pub quotient : (a b k : ℕ) → op a b / 2 ^ k ≡ op (a / 2 ^ k) (b / 2 ^ k)
-  pub remainder : (a b k : ℕ) → op a b % 2 ^ k ≡ op (a % 2 ^ k) (b % 2 ^ k)
+record Bitwise (op : ℕ → ℕ → ℕ) : Type 0 where
+  quotient : (a b k : ℕ) → op a b / 2 ^ k ≡ op (a / 2 ^ k) (b / 2 ^ k)
+  remainder : (a b k : ℕ) → op a b % 2 ^ k ≡ op (a % 2 ^ k) (b % 2 ^ k)
 
 xor-bitwise : Bitwise bitXor
 xor-bitwise = record { quotient = xor-shr; remainder = xor-mod }
@@ -30,33 +29,22 @@ xor-bitwise = record { quotient = xor-shr; remainder = xor-mod }
 or-bitwise : Bitwise bitOr
 or-bitwise = record { quotient = or-shr; remainder = or-mod }
 
--- two lists of one length, element by element
+-- two lists joined element by element, as far as the shorter goes
 abbrev pub zip : {A : Type 0} → (A → A → A) → List A → List A → List A
 zip f [] ys = []
 zip f (x ∷ xs) [] = []
 zip f (x ∷ xs) (y ∷ ys) = f x y ∷ zip f xs ys
 
-pub pow-mul : (a m n : ℕ) → (a ^ m) ^ n ≡ a ^ (m * n)
-pow-mul a m zero = pow-zero (a ^ m) ∙ sym (ap (λ (x : ℕ). a ^ x) (mul-zero m) ∙ pow-zero a)
-pow-mul a m (suc n) =
-    pow-suc (a ^ m) n
-    ∙ ap (λ (x : ℕ). x * a ^ m) (pow-mul a m n)
-    ∙ sym (ap (λ (x : ℕ). a ^ x) (mul-suc m n) ∙ pow-add a (m * n) m)
-
--- `f` on digits of w bits is what `op` does to them
+-- digits of w bits, on which `f` does what `op` does to their numbers: a test of all pairs of digits
 module _ {A : Type 0} (d : Digit A) (fit : Fit d) (w : ℕ) (power : d .base ≡ 2 ^ w) (same : Discrete A) (op : ℕ → ℕ → ℕ) (bitwise : Bitwise op)
-    (f : A → A → A) (test : T (below (d .base) (λ a. below (d .base) (λ b. passes (same (d .lowest (op a b)) (f (d .lowest a) (d .lowest b))))))) where
-  small-digit : (a b : ℕ) → a < d .base → b < d .base → d .lowest (op a b) ≡ f (d .lowest a) (d .lowest b)
-  small-digit a b ha hb =
-      passed (same (d .lowest (op a b)) (f (d .lowest a) (d .lowest b)))
-      (at-below (d .base) (λ b. passes (same (d .lowest (op a b)) (f (d .lowest a) (d .lowest b))))
-      (at-below (d .base) (λ a. below (d .base) (λ b. passes (same (d .lowest (op a b)) (f (d .lowest a) (d .lowest b))))) test a ha) b hb)
-
+    (f : A → A → A)
+    (test : T (below (d .base) (λ a. below (d .base) (λ b. passes (same (d .lowest (op a b)) (f (d .lowest a) (d .lowest b))))))) where
   lowest-op : (a b : ℕ) → d .lowest (op a b) ≡ f (d .lowest a) (d .lowest b)
   lowest-op a b =
       sym (fit .modulo (op a b))
       ∙ ap (d .lowest) (rw power (bitwise .remainder a b w))
-      ∙ small-digit (a % d .base) (b % d .base) (mod-lt a (fit .pos)) (mod-lt b (fit .pos))
+      ∙ law-below-both (d .base) same (λ a b. d .lowest (op a b)) (λ a b. f (d .lowest a) (d .lowest b)) test
+      (a % d .base) (b % d .base) (mod-lt a (fit .pos)) (mod-lt b (fit .pos))
       ∙ ap₂ f (fit .modulo a) (fit .modulo b)
 
   digits-op : (k a b : ℕ) → digits d k (op a b) ≡ zip f (digits d k a) (digits d k b)
@@ -67,7 +55,11 @@ module _ {A : Type 0} (d : Digit A) (fit : Fit d) (w : ℕ) (power : d .base ≡
       (ap (d .lowest) (rw e (bitwise .quotient a b (w * k))) ∙ lowest-op (a / d .base ^ k) (b / d .base ^ k))
       (digits-op k a b)
 
--- packed vectors add by exclusive or
+-- packed vectors: 0 is the zero vector, and they add by exclusive or
+pub digits-zero : (r : ℕ) → digits symbols r 0 ≡ zeros r
+digits-zero zero = refl
+digits-zero (suc r) = ap₂ _∷_ (ap symbolOf (zero-div (4 ^ r))) (digits-zero r)
+
 zip-add : (r a b : ℕ) → zip add (digits symbols r a) (digits symbols r b) ≡ addV (digits symbols r a) (digits symbols r b)
 zip-add zero a b = refl
 zip-add (suc r) a b = ap₂ _∷_ refl (zip-add r a b)

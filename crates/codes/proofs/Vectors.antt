@@ -1,4 +1,6 @@
--- Vectors of symbols add like symbols do, and the syndrome is linear in the values.
+-- Vectors of symbols add as symbols do, and the syndrome is linear in the values.
+-- By induction on the vectors, from the laws of symbols. Where one of two vectors ends it counts as zero, so that the laws of sums need no
+-- lengths; that two vectors with a zero sum are equal, and that the syndrome of a sum is the sum of syndromes, holds at equal lengths.
 -- Assumes nothing.
 use mathlib.Core.Path.{_≡_, refl, sym, ap, ap₂, _∙_}
 use mathlib.Core.Bool.{Bool, true, _&&_, and-eq-true-iff}
@@ -9,8 +11,8 @@ use borrow.Author.Tests.{eqb-true}
 use lib.Dec.{eqb}
 use lib.ListN.{length, length-replicate}
 use Rattle.symbols.specs.Symbol.{Symbol, s0, Symbol-discrete, isZero, add}
-use Rattle.symbols.proofs.Every.{symbols, _⊗_, implied, passed, passes}
-use Rattle.symbols.proofs.Symbols.{add-assoc, add-comm, add-zero, add-mul}
+use Rattle.symbols.proofs.Every.{symbols, _⊗_, law-where}
+use Rattle.symbols.proofs.Symbols.{add-assoc, add-comm, add-zero, add-self, add-mul}
 use Rattle.codes.specs.Vector.{zeros, addV, scale, isZeroV}
 use Rattle.codes.specs.Word.{syndrome}
 
@@ -26,7 +28,7 @@ addV-assoc (x ∷ xs) [] z = refl
 addV-assoc (x ∷ xs) (y ∷ ys) [] = refl
 addV-assoc (x ∷ xs) (y ∷ ys) (z ∷ zs) = ap₂ _∷_ (add-assoc x y z) (addV-assoc xs ys zs)
 
-pub addV-swap : (a b c d : List Symbol) → addV (addV a b) (addV c d) ≡ addV (addV a c) (addV b d)
+addV-swap : (a b c d : List Symbol) → addV (addV a b) (addV c d) ≡ addV (addV a c) (addV b d)
 addV-swap a b c d =
     addV-assoc a b (addV c d)
     ∙ ap (addV a) (sym (addV-assoc b c d) ∙ ap (λ (x : List Symbol). addV x d) (addV-comm b c) ∙ addV-assoc c b d)
@@ -36,21 +38,21 @@ pub scale-add : (a b : Symbol) (h : List Symbol) → scale (add a b) h ≡ addV 
 scale-add a b [] = refl
 scale-add a b (x ∷ xs) = ap₂ _∷_ (add-mul a b x) (scale-add a b xs)
 
--- zero vectors
-pub zero-symbol : (x : Symbol) → isZero x ≡ true → x ≡ s0
-zero-symbol x e = passed (Symbol-discrete x s0) (implied symbols isZero (λ x. passes (Symbol-discrete x s0)) tt x e)
+-- zero vectors: all of their symbols are 0
+zero-symbol : (x : Symbol) → isZero x ≡ true → x ≡ s0
+zero-symbol x e = law-where symbols Symbol-discrete isZero (λ x. x) (λ x. s0) tt x e
 
-pub zero-zeros : (n : ℕ) → isZeroV (zeros n) ≡ true
-zero-zeros zero = refl
-zero-zeros (suc n) = zero-zeros n
+pub zeros-zero : (n : ℕ) → isZeroV (zeros n) ≡ true
+zeros-zero zero = refl
+zeros-zero (suc n) = zeros-zero n
 
--- a zero vector that is added changes nothing
-pub zero-add : (x y : List Symbol) → isZeroV y ≡ true → isZeroV (addV x y) ≡ isZeroV x
-zero-add [] y e = e
-zero-add (x ∷ xs) [] e = refl
-zero-add (x ∷ xs) (y ∷ ys) e =
+-- a sum with a zero vector is zero just where the other vector is
+pub add-zero-vector : (x y : List Symbol) → isZeroV y ≡ true → isZeroV (addV x y) ≡ isZeroV x
+add-zero-vector [] y e = e
+add-zero-vector (x ∷ xs) [] e = refl
+add-zero-vector (x ∷ xs) (y ∷ ys) e =
     let both = and-eq-true-iff (isZero y) (isZeroV ys) .0 e in
-    ap₂ (λ (a b : Bool). a && b) (ap (λ (z : Symbol). isZero (add x z)) (zero-symbol y (both .0)) ∙ ap isZero (add-zero x)) (zero-add xs ys (both .1))
+    ap₂ _&&_ (ap (λ (z : Symbol). isZero (add x z)) (zero-symbol y (both .0)) ∙ ap isZero (add-zero x)) (add-zero-vector xs ys (both .1))
 
 pub zero-is-zeros : (x : List Symbol) → isZeroV x ≡ true → x ≡ zeros (length x)
 zero-is-zeros [] e = refl
@@ -62,18 +64,22 @@ addV-zeros : (n : ℕ) → addV (zeros n) (zeros n) ≡ zeros n
 addV-zeros zero = refl
 addV-zeros (suc n) = ap (λ (x : List Symbol). s0 ∷ x) (addV-zeros n)
 
--- two vectors of one length whose sum is zero are equal
-pub zero-sum : (x y : List Symbol) → length x ≡ length y → isZeroV (addV x y) ≡ true → x ≡ y
-zero-sum [] [] e z = refl
-zero-sum [] (y ∷ ys) e z = absurd (omega arith)
-zero-sum (x ∷ xs) [] e z = absurd (omega arith)
-zero-sum (x ∷ xs) (y ∷ ys) e z =
+-- a vector added to itself is zero, and two vectors of one length whose sum is zero are equal
+pub addV-self : (x : List Symbol) → isZeroV (addV x x) ≡ true
+addV-self [] = refl
+addV-self (x ∷ xs) = ap₂ _&&_ (ap isZero (add-self x)) (addV-self xs)
+
+pub zero-sum-same : (x y : List Symbol) → length x ≡ length y → isZeroV (addV x y) ≡ true → x ≡ y
+zero-sum-same [] [] e z = refl
+zero-sum-same [] (y ∷ ys) e z = absurd (omega arith)
+zero-sum-same (x ∷ xs) [] e z = absurd (omega arith)
+zero-sum-same (x ∷ xs) (y ∷ ys) e z =
     let both = and-eq-true-iff (isZero (add x y)) (isZeroV (addV xs ys)) .0 z in
     ap₂ _∷_
-    (passed (Symbol-discrete x y) (implied (symbols ⊗ symbols) (λ (x, y). isZero (add x y)) (λ (x, y). passes (Symbol-discrete x y)) tt (x, y) (both .0)))
-    (zero-sum xs ys (omega arith) (both .1))
+    (law-where (symbols ⊗ symbols) Symbol-discrete (λ (x, y). isZero (add x y)) (λ (x, y). x) (λ (x, y). y) tt (x, y) (both .0))
+    (zero-sum-same xs ys (omega arith) (both .1))
 
--- the syndrome of a sum
+-- the syndrome of a sum of values
 pub syndrome-add : (r : ℕ) (H : List (List Symbol)) (u v : List Symbol) → length u ≡ length v →
     syndrome r H (addV u v) ≡ addV (syndrome r H u) (syndrome r H v)
 syndrome-add r [] u v e = sym (addV-zeros r)

@@ -3,13 +3,12 @@
 -- Assumes nothing.
 use Prim.Native.Nat.{ℕ, zero, suc, _+_, _-_, _<_, _≤_}
 use mathlib.Core.Path.{_≡_, refl}
-use mathlib.Core.Bool.{true, false}
+use mathlib.Core.Bool.{true, false, and-eq-true-iff}
 use mathlib.Core.List.{List, [], _∷_}
 use native.Mathlib.Omega.{arith}
 use lib.Dec.{leb, ltb, eqb}
 use lib.ListN.{length, getD, drop, length-drop}
 use borrow.Author.Tests.{le-leb, lt-leb, leb-true}
-use Rattle.codes.proofs.Rows.{and-true}
 use Rattle.trace.specs.Trace.{onBytes}
 use Rattle.replay.specs.declared.orders.Order.{Order}
 use Rattle.replay.specs.Numbers.{kinds, isCall, callsIn, answerNumbers}
@@ -20,9 +19,9 @@ use Rattle.replay.specs.Rows.{orderCall, OrderedBy, RanAs, TurnedBy}
 call-within : (xs : List ℕ) → isCall xs ≡ true → 2 + getD xs 1 0 ≤ length xs
 unfolding isCall
 call-within xs e =
-    let a = and-true (leb 2 (length xs)) _ e in
-    let b = and-true (ltb (getD xs 0 0) (length kinds)) _ (a .1) in
-    let c = and-true (eqb (getD xs 1 0) (getD kinds (getD xs 0 0) 0)) _ (b .1) in
+    let a = and-eq-true-iff (leb 2 (length xs)) _ .0 e in
+    let b = and-eq-true-iff (ltb (getD xs 0 0) (length kinds)) _ .0 (a .1) in
+    let c = and-eq-true-iff (eqb (getD xs 1 0) (getD kinds (getD xs 0 0) 0)) _ .0 (b .1) in
     leb-true _ _ (c .1)
 
 no-calls : (n : ℕ) (xs : List ℕ) → isCall xs ≡ false → callsIn n xs ≡ []

@@ -1,12 +1,13 @@
 -- The laws of columns. Value, parity and top bit add, and the three together fix a column; weight is bounded below by parity
--- and value, and above by the weights of summands. Each is a test over all columns. Assumes nothing.
+-- and value, and above by the weights of summands. Each is a test over all columns.
+-- Assumes nothing.
 use mathlib.Core.Path.{_≡_, ap₂}
 use mathlib.Core.Bool.{Bool, true, false, not, _&&_, Bool-discrete}
 use Prim.Native.Nat.{_+_, _*_, _≤_}
-use lib.Dec.{leb, leb→le, eqb, eqb→eq}
+use lib.Dec.{leb, leb→le}
 use Rattle.symbols.specs.Symbol.{_⊻_, Symbol, Symbol-discrete, isZero, add}
 use Rattle.symbols.specs.Column.{Column, Column-discrete, value, parity, top, one, weight, _⊕_, columnWith}
-use Rattle.symbols.proofs.Every.{bits, symbols, columns, _⊗_, law, implied}
+use Rattle.symbols.proofs.Every.{bits, symbols, columns, _⊗_, law, law-le, implied, law-where, number-discrete}
 
 pub value-add : (c d : Column) → value (c ⊕ d) ≡ add (value c) (value d)
 value-add c d = law (columns ⊗ columns) Symbol-discrete (λ (c, d). value (c ⊕ d)) (λ (c, d). add (value c) (value d)) tt (c, d)
@@ -34,7 +35,7 @@ pub top-with : (p : Bool) (v : Symbol) (t : Bool) → top (columnWith p v t) ≡
 unfolding columnWith
 top-with p v t = law (bits ⊗ symbols ⊗ bits) Bool-discrete (λ (p, (v, t)). top (columnWith p v t)) (λ (p, (v, t)). t) tt (p, (v, t))
 
--- an odd column has a one; an even one has two unless its value is 0, and then none or four
+-- an odd column has a one; an even one has two unless its value is 0, and then four or none, by its top bit
 pub odd-weight : (c : Column) → parity c ≡ true → 1 ≤ weight c
 odd-weight c e = leb→le 1 (weight c) (implied columns parity (λ c. leb 1 (weight c)) tt c e)
 
@@ -45,15 +46,14 @@ even-weight c e v =
 
 pub flat-weight : (c : Column) → parity c ≡ false → isZero (value c) ≡ true → weight c ≡ 4 * one (top c)
 flat-weight c e v =
-    eqb→eq (weight c) (4 * one (top c))
-    (implied columns (λ c. not (parity c) && isZero (value c)) (λ c. eqb (weight c) (4 * one (top c))) tt c (ap₂ (λ (p z : Bool). not p && z) e v))
+    law-where columns number-discrete (λ c. not (parity c) && isZero (value c)) weight (λ c. 4 * one (top c)) tt c
+    (ap₂ (λ (p z : Bool). not p && z) e v)
 
 pub weight-add : (c d : Column) → weight (c ⊕ d) ≤ weight c + weight d
-weight-add c d =
-    leb→le (weight (c ⊕ d)) (weight c + weight d) ((columns ⊗ columns) .at (λ (c, d). leb (weight (c ⊕ d)) (weight c + weight d)) tt (c, d))
+weight-add c d = law-le (columns ⊗ columns) (λ (c, d). weight (c ⊕ d)) (λ (c, d). weight c + weight d) tt (c, d)
 
 pub weight-le : (c : Column) → weight c ≤ 4
-weight-le c = leb→le (weight c) 4 (columns .at (λ c. leb (weight c) 4) tt c)
+weight-le c = law-le columns weight (λ c. 4) tt c
 
 pub one-le : (b : Bool) → one b ≤ 1
-one-le b = leb→le (one b) 1 (bits .at (λ b. leb (one b) 1) tt b)
+one-le b = law-le bits one (λ b. 1) tt b

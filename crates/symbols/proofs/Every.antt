@@ -1,12 +1,13 @@
--- Laws over finite types. A test is computed at every value of the type; that it passes everywhere is then its own proof, `tt`,
--- and `at` or `law` turns it into the fact at one value. Several variables are a tuple: `bits ⊗ symbols ⊗ columns`.
+-- Laws over finite types: bits, symbols, columns, tuples of them, and the numbers below a bound.
+-- A test is computed at every value of the type; that it passes everywhere is then its own proof, `tt`, and `at`, `law`, `law-le` or `implied`
+-- turns it into the fact at one value. Several variables are a tuple: `bits ⊗ symbols ⊗ columns`.
 -- Assumes nothing.
 use mathlib.Core.Path.{_≡_, refl, sym, subst}
 use mathlib.Core.Bool.{Bool, true, false, not, _&&_, _||_}
 use mathlib.Core.Logic.{⊎-elim}
-use Prim.Native.Nat.{ℕ, zero, suc, _<_}
+use Prim.Native.Nat.{ℕ, zero, suc, _≤_, _<_}
 use native.Mathlib.Nat.{le-of-suc-le-suc, eq-or-lt-of-le, not-suc-le-zero}
-use lib.Dec.{T, eqb}
+use lib.Dec.{T, leb, leb→le, eqb}
 use borrow.Author.Tests.{eqb-true, eqb-false}
 use Rattle.symbols.specs.Symbol.{Symbol, s0, s1, s2, s3}
 use Rattle.symbols.specs.Column.{Column, column}
@@ -83,13 +84,29 @@ decided m n false e = no (eqb-false m n e)
 abbrev pub number-discrete : Discrete ℕ
 number-discrete m n = decided m n (eqb m n) refl
 
--- two functions that agree at every value, and two that agree below a bound
+-- two functions that agree at every value, one that is at most another at every value, and two that agree
+-- below a bound, at a number or at two
 pub law : {A B : Type 0} (p : Every A) (d : Discrete B) (f g : A → B) → T (p .all (λ a. passes (d (f a) (g a)))) → (a : A) → f a ≡ g a
 law p d f g t a = passed (d (f a) (g a)) (p .at (λ a. passes (d (f a) (g a))) t a)
+
+pub law-le : {A : Type 0} (p : Every A) (f g : A → ℕ) → T (p .all (λ a. leb (f a) (g a))) → (a : A) → f a ≤ g a
+law-le p f g t a = leb→le (f a) (g a) (p .at (λ a. leb (f a) (g a)) t a)
 
 pub law-below : {B : Type 0} (n : ℕ) (d : Discrete B) (f g : ℕ → B) → T (below n (λ k. passes (d (f k) (g k)))) → (k : ℕ) → k < n → f k ≡ g k
 law-below n d f g t k h = passed (d (f k) (g k)) (at-below n (λ k. passes (d (f k) (g k))) t k h)
 
--- one test passes wherever another does
+pub law-below-both : {B : Type 0} (n : ℕ) (d : Discrete B) (f g : ℕ → ℕ → B) →
+    T (below n (λ j. below n (λ k. passes (d (f j k) (g j k))))) → (j k : ℕ) → j < n → k < n → f j k ≡ g j k
+law-below-both n d f g t j k hj hk =
+    law-below n d (f j) (g j) (at-below n (λ j. below n (λ k. passes (d (f j k) (g j k)))) t j hj) k hk
+
+-- where a test that is an implication passes; one that passes at every value of a type; two functions that agree where a test passes
+pub implies : (a b : Bool) → T (not a || b) → a ≡ true → T b
+implies a b t e = subst (λ (x : Bool). T (not x || b)) e t
+
 pub implied : {A : Type 0} (p : Every A) (f g : A → Bool) → T (p .all (λ a. not (f a) || g a)) → (a : A) → f a ≡ true → T (g a)
-implied p f g t a e = subst (λ (b : Bool). T (not b || g a)) e (p .at (λ a. not (f a) || g a) t a)
+implied p f g t a e = implies (f a) (g a) (p .at (λ a. not (f a) || g a) t a) e
+
+pub law-where : {A B : Type 0} (p : Every A) (d : Discrete B) (h : A → Bool) (f g : A → B) →
+    T (p .all (λ a. not (h a) || passes (d (f a) (g a)))) → (a : A) → h a ≡ true → f a ≡ g a
+law-where p d h f g t a e = passed (d (f a) (g a)) (implied p h (λ a. passes (d (f a) (g a))) t a e)

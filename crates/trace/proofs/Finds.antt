@@ -3,7 +3,7 @@
 -- Assumes nothing.
 use Prim.Native.Nat.{ℕ, _*_, _<_, _≤_}
 use mathlib.Core.Path.{_≡_, _∙_}
-use mathlib.Core.Bool.{true, false}
+use mathlib.Core.Bool.{true, false, and-eq-true-iff}
 use mathlib.Core.List.{List, [], _∷_}
 use native.Mathlib.Omega.{arith}
 use lib.Dec.{leb}
@@ -11,7 +11,6 @@ use lib.ListN.{length}
 use borrow.Author.Tests.{le-ltb, le-leb, lt-leb, leb-true, eq-eqb, ne-eqb}
 use Rattle.codes.specs.Answer.{unless}
 use Rattle.codes.specs.Codes.{isCode}
-use Rattle.codes.proofs.Rows.{and-true}
 use Rattle.trace.specs.declared.layout.Place.{Place}
 use Rattle.trace.specs.declared.layout.Header.{Header}
 use Rattle.trace.specs.declared.layout.Opened.{Opened}
@@ -23,7 +22,7 @@ use Rattle.trace.specs.Found.{Refuses, Fitting, openRows, OpenedAs, Open
 -- 'N not 1 to 4,000'
 pub count-bounds : (n : ℕ) → isCount n ≡ true → (1 ≤ n) × (n ≤ 4000)
 count-bounds n e =
-    let both = and-true (leb 1 n) (leb n 4000) e in
+    let both = and-eq-true-iff (leb 1 n) (leb n 4000) .0 e in
     (leb-true 1 n (both .0), leb-true n 4000 (both .1))
 
 -- a trailer's numbers, test by test

@@ -4,7 +4,7 @@
 -- Assumes nothing.
 use Prim.Native.Nat.{ℕ, zero, suc, _<_, _≤_, _^_}
 use mathlib.Core.Path.{_≡_, refl, sym, ap, _∙_}
-use mathlib.Core.Bool.{Bool, true, false}
+use mathlib.Core.Bool.{Bool, true, false, _||_}
 use mathlib.Core.Logic.{_⊎_, inl, inr, ⊎-elim}
 use mathlib.Core.List.{List, [], _∷_}
 use native.Mathlib.Omega.{arith}
@@ -19,7 +19,7 @@ use Rattle.codes.specs.Projection.{width}
 use Rattle.codes.specs.Word.{bit}
 use Rattle.codes.specs.Message.{encode}
 use Rattle.codes.specs.Codes.{codeOf, stepLimit}
-use Rattle.codes.proofs.Rows.{or-false, accepted-row}
+use Rattle.codes.proofs.Rows.{accepted-row}
 use Rattle.trace.specs.declared.change.Change.{Change}
 use Rattle.trace.specs.Layout.{placeFrom, storeAt}
 use Rattle.trace.specs.Calls.{Call, put, flip, mark, clear, read, survey, After, after, settle, Run, run}
@@ -188,12 +188,16 @@ bit-passed p i position vs e =
     let inside = accepted-row (noPosition (projectionOf p) position) _ vs (accepted-row (isBlank p i) _ vs (there .1) .1) in
     (leb-false _ i (there .0), leb-false _ position (inside .0))
 
+neither : (s t : Bool) → s || t ≡ false → (s ≡ false) × (t ≡ false)
+neither true t e = let z : _≡_ {A = ℕ} 0 1 = cc in absurd (omega arith)
+neither false t e = (refl, e)
+
 leaves-sound : (c : Call) (p : Plain) → Sound p → (vs : List ℕ) → unless (plainRefusals c p) (plainGives c p) ≡ accepted vs
     → Sound (plainLeaves c p)
 leaves-sound (put i step reading) p s vs e =
     let there = accepted-row (noSuch p i) _ vs e in
     let small = accepted-row (tooLarge (projectionOf p) step reading) _ vs (there .1) in
-    let both = or-false (leb (stepLimit (projectionOf p)) step) (leb 4096 reading) (small .0) in
+    let both = neither (leb (stepLimit (projectionOf p)) step) (leb 4096 reading) (small .0) in
     sound-with p s i (leb-false _ i (there .0)) (written (messageOf step reading) 0 0)
     (message-lt (codeOf (p .code)) step reading (leb-false _ step (both .0)) (leb-false 4096 reading (both .1)), pow-pos _, pow-pos _)
 leaves-sound (flip i position) p s vs e =

@@ -1,15 +1,15 @@
 -- `symbols::column_with` meets its contract: the table of columns is tested at its sixteen entries.
 -- Assumes nothing.
-use borrow.Author.Needs.{needs}
 use mathlib.Core.Path.{_≡_, ap, ap₂, _∙_}
 use mathlib.Core.Bool.{Bool}
 use Prim.Native.Nat.{ℕ, _+_, _*_, _/_, _%_, _^_}
 use native.Mathlib.Nat.{mod-lt}
 use native.Mathlib.Omega.{arith}
-use lib.Dec.{T, eqb, eqb→eq, lit<}
+use borrow.Author.Needs.{needs}
+use lib.Dec.{T, lit<}
 use Rattle.symbols.specs.Symbol.{Symbol, symbolOf}
 use Rattle.symbols.specs.Column.{one, columnNumber, columnWith}
-use Rattle.symbols.proofs.Every.{bits, _⊗_, below, at-below}
+use Rattle.symbols.proofs.Every.{bits, _⊗_, below, passes, law-below, number-discrete}
 use Rattle.symbols.proofs.Columns.{one-le}
 use Rattle.symbols.proofs.Numbers.{symbol-mod}
 use Rattle.symbols.proofs.column_with.Statement.{statement}
@@ -20,14 +20,13 @@ abbrev entry : ℕ → ℕ → ℕ → ℕ → ℕ
 entry w p v t = w / 2 ^ (32 * p + 8 * v + 4 * t) % 16
 
 abbrev right : ℕ → Bool → Bool → Bool
-right w p t = below 4 (λ v. eqb (entry w (one p) v (one t)) (columnNumber (columnWith p (symbolOf v) t)))
+right w p t = below 4 (λ v. passes (number-discrete (entry w (one p) v (one t)) (columnNumber (columnWith p (symbolOf v) t))))
 
 entry-right : (w : ℕ) → T ((bits ⊗ bits) .all (λ (p, t). right w p t)) →
     (p : Bool) (v : ℕ) (t : Bool) → entry w (one p) (v % 4) (one t) ≡ columnNumber (columnWith p (symbolOf v) t)
 entry-right w h p v t =
-    eqb→eq _ _
-    (at-below 4 (λ v. eqb (entry w (one p) v (one t)) (columnNumber (columnWith p (symbolOf v) t)))
-    ((bits ⊗ bits) .at (λ (p, t). right w p t) h (p, t)) (v % 4) (mod-lt v (lit< tt)))
+    law-below 4 number-discrete (λ v. entry w (one p) v (one t)) (λ v. columnNumber (columnWith p (symbolOf v) t))
+    ((bits ⊗ bits) .at (λ (p, t). right w p t) h (p, t)) (v % 4) (mod-lt v (lit< tt))
     ∙ ap (λ (s : Symbol). columnNumber (columnWith p s t)) (symbol-mod v)
 
 one-requires : tie.Need-one-requires

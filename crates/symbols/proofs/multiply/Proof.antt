@@ -1,7 +1,7 @@
 -- `symbols::multiply` meets its contract: the table of products is tested at its sixteen entries.
 -- Assumes nothing.
-use borrow.Author.Needs.{needs}
 use Prim.Native.Nat.{_+_, _*_, _/_, _%_, _^_}
+use borrow.Author.Needs.{needs}
 use Rattle.symbols.specs.Symbol.{mul}
 use Rattle.symbols.proofs.Numbers.{by-symbols}
 use Rattle.symbols.proofs.multiply.Statement.{statement}

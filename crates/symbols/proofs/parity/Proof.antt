@@ -1,8 +1,8 @@
 -- `symbols::parity` meets its contract: the table of parities is tested at its sixteen entries.
 -- Assumes nothing.
-use borrow.Author.Needs.{needs}
 use mathlib.Core.Bool.{Bool-discrete}
 use Prim.Native.Nat.{_/_, _%_, _^_}
+use borrow.Author.Needs.{needs}
 use lib.Dec.{eqb}
 use Rattle.symbols.specs.Column.{parity}
 use Rattle.symbols.proofs.Numbers.{by-column}

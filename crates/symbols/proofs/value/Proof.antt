@@ -1,7 +1,7 @@
 -- `symbols::value` meets its contract: the table of values is tested at its sixteen entries.
 -- Assumes nothing.
-use borrow.Author.Needs.{needs}
 use Prim.Native.Nat.{_*_, _/_, _%_, _^_}
+use borrow.Author.Needs.{needs}
 use Rattle.symbols.specs.Symbol.{symbolNumber}
 use Rattle.symbols.specs.Column.{value}
 use Rattle.symbols.proofs.Every.{number-discrete}

@@ -1,7 +1,7 @@
 -- `symbols::weight` meets its contract: the table of weights is tested at its sixteen entries.
 -- Assumes nothing.
-use borrow.Author.Needs.{needs}
 use Prim.Native.Nat.{_*_, _/_, _%_, _^_}
+use borrow.Author.Needs.{needs}
 use Rattle.symbols.specs.Column.{weight}
 use Rattle.symbols.proofs.Every.{number-discrete}
 use Rattle.symbols.proofs.Numbers.{by-column}

@@ -19,7 +19,8 @@ enum-told c = search needs
 returns : tie.Need-returns
 returns c =
     let a = c .before .before .before .args in
-    sym (under-unknown (a .code) (λ π. reading π (a .word)) (c .enum-told .given .0 .0) (sym (c .before .before .from-number .ensures) ∙ c .enum-told .given .1))
+    sym (under-unknown (a .code) (λ π. reading π (a .word)) (c .enum-told .given .0 .0)
+    (sym (c .before .before .from-number .ensures) ∙ c .enum-told .given .1))
 
 decode-requires : tie.Need-decode-requires
 decode-requires c κs = search needs
@@ -28,7 +29,8 @@ returns-2 : tie.Need-returns-2
 returns-2 c =
     let a = c .before .before .before .before .before .args in
     c .decode .ensures
-    ∙ sym (under-known (a .code) (λ π. reading π (a .word)) (c .before .before .c .given .0 .0) (sym (c .before .before .before .before .from-number .ensures) ∙ c .before .before .c .given .1))
+    ∙ sym (under-known (a .code) (λ π. reading π (a .word)) (c .before .before .c .given .0 .0)
+    (sym (c .before .before .before .before .from-number .ensures) ∙ c .before .before .c .given .1))
 
 pub decode-spec : {M : Type 1} → statement M
 decode-spec =

@@ -4,7 +4,7 @@ use lib.Bits.{bitOr, xor-lt, or-lt}
 use Rattle.codes.specs.Projection.{width}
 use Rattle.codes.specs.Codes.{projection}
 use Rattle.codes.proofs.Searches.{sought-one, sought-none}
-use Rattle.codes.proofs.Mends.{fillings, one-filling}
+use Rattle.codes.proofs.Mends.{neither-filling, one-filling}
 use Rattle.codes.proofs.mend.either_filling.Statement.{statement}
 use Rattle.codes.proofs.mend.either_filling.Tie as tie
 
@@ -21,7 +21,8 @@ returns-2 : tie.Need-returns-2
 returns-2 c =
     let a = c .before .before .before .args in
     let zeros = c .before .before .fitting .ensures .none (c .before .if1 .left) in
-    sought-none (fillings (projection (a .code)) (a .word) (a .marks) zeros (one-filling (projection (a .code)) (a .word) (a .marks) (c .if2 .taken) zeros))
+    let π = projection (a .code) in
+    sought-none (neither-filling π (a .word) (a .marks) zeros (one-filling π (a .word) (a .marks) (c .if2 .taken) zeros))
 
 fitting-requires-2 : tie.Need-fitting-requires-2
 fitting-requires-2 c κs =
@@ -35,7 +36,7 @@ returns-3 c =
     let zeros = c .before .before .before .fitting .ensures .none (c .before .before .if1 .left) in
     record {
       found = λ l. c .fitting2 .ensures .found l .is;
-      none = λ l. fillings (projection (a .code)) (a .word) (a .marks) zeros (c .fitting2 .ensures .none l);
+      none = λ l. neither-filling (projection (a .code)) (a .word) (a .marks) zeros (c .fitting2 .ensures .none l);
     }
 
 pub either-filling-spec : {M : Type 1} → statement M

@@ -1,4 +1,4 @@
--- `codes::mend::fitting` meets its contract: the one codeword that is within three positions is near, or none of them is.
+-- `codes::mend::fitting` meets its contract: at most one codeword is within three positions, and it is near or no near one is.
 -- Assumes nothing.
 use native.Mathlib.Omega.{arith}
 use borrow.Author.Needs.{needs}
@@ -16,7 +16,7 @@ within-three-requires c κs = search needs
 returns : tie.Need-returns
 returns c =
     let a = c .before .before .args in
-    sought-none (fitting-none (projection (a .code)) (a .word) (a .marks) (systematic (a .code)) (apart (a .code)) (a .filled) (c .before .within-three .ensures .none (c .if1 .taken)))
+    sought-none (fitting-none (projection (a .code)) (a .word) (a .marks) (a .filled) (c .before .within-three .ensures .none (c .if1 .taken)))
 
 wrong-requires : tie.Need-wrong-requires
 wrong-requires c κs = search needs
@@ -27,7 +27,12 @@ mul-if2 c =
     let a = s .args in
     let π = projection (a .code) in
     let found = c .before .before .within-three .ensures .found (c .before .if1 .left) in
-    omega (arith, c .wrong .ensures π (s .pre .2) (s .pre .3) (found .fits), wrong-le π (a .word) (a .marks) (c .before .before .within-three .result), size-le (a .code))
+    omega (
+      arith,
+      c .wrong .ensures π (s .pre .2) (s .pre .3) (found .fits),
+      wrong-le π (a .word) (a .marks) (c .before .before .within-three .result),
+      size-le (a .code),
+    )
 
 ones-requires : tie.Need-ones-requires
 ones-requires c κs = search needs
@@ -56,7 +61,7 @@ returns-2 c =
     let small = c .before .before .before .if1 .left in
     let found = c .before .before .before .before .within-three .ensures .found small in
     sought-one x
-    (fitting-near π (a .word) (a .marks) (systematic (a .code)) (apart (a .code)) (a .filled) x found
+    (fitting-near π (a .word) (a .marks) (a .filled) x found
     (omega (arith, c .before .before .wrong .ensures π (s .pre .2) (s .pre .3) (found .fits), c .before .ones .ensures π (s .pre .3), c .if2 .taken)))
     small
 

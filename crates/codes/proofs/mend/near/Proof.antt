@@ -1,4 +1,4 @@
--- `codes::mend::near` meets its contract: each length's tables are those that its matrix gives by their rules.
+-- `codes::mend::near` meets its contract: each length's tables are those that their rules give for its matrix, by computation.
 -- Assumes nothing.
 use mathlib.Core.Path.{refl}
 use borrow.Author.Needs.{needs}
@@ -14,7 +14,8 @@ either-filling-requires : tie.Need-either-filling-requires
 unfolding entryTable
 either-filling-requires c κs =
     let s = c .before .before .before in (
-      of-tags (λ k. Tables (projection k) (scaledColumns (projection O36)) (entryTable (projection O36))) 0 1 (refl, refl) (refl, refl) (s .args .code) (c .before .before .match .keys1),
+      of-tags (λ k. Tables (projection k) (scaledColumns (projection O36)) (entryTable (projection O36))) 0 1 (refl, refl) (refl, refl)
+          (s .args .code) (c .before .before .match .keys1),
       s .pre .0,
       s .pre .1,
     )
@@ -23,7 +24,8 @@ either-filling-requires-2 : tie.Need-either-filling-requires-2
 unfolding entryTable
 either-filling-requires-2 c κs =
     let s = c .before .before .before in (
-      of-tags (λ k. Tables (projection k) (scaledColumns (projection O40)) (entryTable (projection O40))) 2 3 (refl, refl) (refl, refl) (s .args .code) (c .before .before .match .keys2),
+      of-tags (λ k. Tables (projection k) (scaledColumns (projection O40)) (entryTable (projection O40))) 2 3 (refl, refl) (refl, refl)
+          (s .args .code) (c .before .before .match .keys2),
       s .pre .0,
       s .pre .1,
     )

@@ -1,4 +1,4 @@
--- `codes::message::column_at` meets its contract.
+-- `codes::message::column_at` meets its contract: the column with the message's highest bit, the column's value and the top bit.
 -- Assumes nothing.
 use mathlib.Core.Path.{ap, ap₂, _∙_}
 use mathlib.Core.Bool.{Bool}

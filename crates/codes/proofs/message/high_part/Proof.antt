@@ -28,7 +28,8 @@ use Rattle.codes.proofs.message.high_part.Tie as tie
 abbrev Inv-loop : tie.InvT-loop
 Inv-loop code columns number₀ i₀ number i =
     (i ≤ size (projection code))
-    × (followed symbols number (chosen (drop i (projection code .free)) (map value (drop i (held (projection code) columns)))) ≡ highPart (projection code) (held (projection code) columns))
+    × (followed symbols number (chosen (drop i (projection code .free)) (map value (drop i (held (projection code) columns))))
+    ≡ highPart (projection code) (held (projection code) columns))
 
 abbrev μ-loop : tie.MeasureT-loop
 μ-loop code columns number₀ i₀ number i = size (projection code) - i
@@ -50,7 +51,8 @@ loop-holds c =
     let code = c .before .before .args .code in
     let a = c .before .before .args .t2 in (
       omega arith,
-      ap (λ (n : ℕ). followed symbols n (chosen (projection code .free) (map value (held (projection code) a)))) (c .one .ensures ∙ ap one (c .before .parity .ensures))
+      ap (λ (n : ℕ). followed symbols n (chosen (projection code .free) (map value (held (projection code) a))))
+          (c .one .ensures ∙ ap one (c .before .parity .ensures))
           ∙ read-start (projection code) (systematic code) a (omega (arith, size-le code)),
     )
 
@@ -66,11 +68,12 @@ array-read-with-value c = omega (arith, c .before .before .columns .ensures, siz
 with-value-requires : tie.Need-with-value-requires Inv-loop μ-loop
 with-value-requires c κs =
     let code = c .before .before .before .before .before .before .args .code in
+    let π = projection code in
     let a = c .before .before .before .before .before .before .args .t2 in
     let l = c .before .before .before .loop in
-    let high : highPart (projection code) (held (projection code) a) < 2 ^ 22 =
-    lt-of-lt-of-le (high-bounded (projection code) (systematic code) a (omega (arith, size-le code))) (pow-mono (bits-le code)) in
-    omega (arith, l .inv .1, followed-le symbols symbols-fit (l .number) (chosen (drop (l .i) (projection code .free)) (map value (drop (l .i) (held (projection code) a)))))
+    let high : highPart π (held π a) < 2 ^ 22 =
+    lt-of-lt-of-le (high-bounded π (systematic code) a (omega (arith, size-le code))) (pow-mono (bits-le code)) in
+    omega (arith, l .inv .1, followed-le symbols symbols-fit (l .number) (chosen (drop (l .i) (π .free)) (map value (drop (l .i) (held π a)))))
 
 add-i : tie.Need-add-i Inv-loop μ-loop
 add-i c = omega (arith, c .before .before .before .columns .ensures, size-le (c .before .before .before .before .before .before .before .args .code))
@@ -87,7 +90,8 @@ loop-again c =
     let below : l .i < size π = omega (arith, c .before .before .before .columns .ensures) in (
       omega arith,
       ap₂ (λ (n j : ℕ). followed symbols n (chosen (drop j (π .free)) (map value (drop j (held π a)))))
-          (c .with-value .ensures ∙ ap (λ (b : Bool). cond b (l .number * 4 + symbolNumber (value (columnOf (getD a (l .i) 0)))) (l .number)) (c .before .is-free .ensures))
+          (c .with-value .ensures
+          ∙ ap (λ (b : Bool). cond b (l .number * 4 + symbolNumber (value (columnOf (getD a (l .i) 0)))) (l .number)) (c .before .is-free .ensures))
           (add-one (l .i))
           ∙ sym (read-value π (systematic code) a (omega (arith, size-le code)) (l .i) (l .number) below) ∙ l .inv .1,
     )
@@ -100,7 +104,7 @@ returns c =
     let l = c .before .before .loop in
     sym (followed-none symbols (l .number))
     ∙ ap (λ (x : List Bool). followed symbols (l .number) (chosen x (map value (drop (l .i) (held π a)))))
-    (sym (drop-of-length-le (π .free) {i = l .i} (omega (arith, c .before .columns .ensures, systematic code .marks))))
+    (sym (drop-of-length-le (π .free) {i = l .i} (omega (arith, c .before .columns .ensures, systematic code .flags))))
     ∙ l .inv .1
 
 pub high-part-spec : {M : Type 1} → statement M

@@ -1,4 +1,5 @@
--- `codes::message::value_at` meets its contract: by whether the column is free.
+-- `codes::message::value_at` meets its contract: the digit of the message or of the syndrome that has as many digits behind it as there
+-- are columns of its kind behind the column.
 -- Assumes nothing.
 use mathlib.Core.Path.{_≡_, sym, ap, ap₂, _∙_}
 use mathlib.Core.Bool.{not}
@@ -11,9 +12,9 @@ use Rattle.symbols.specs.Symbol.{symbolOf}
 use Rattle.symbols.proofs.Numbers.{symbol-mod}
 use Rattle.codes.specs.Projection.{size, count, topBits}
 use Rattle.codes.specs.Codes.{projection}
-use Rattle.codes.proofs.Sums.{pow-mul}
+use Rattle.codes.proofs.Digits.{pow-mul, shift-shift}
 use Rattle.codes.proofs.Codes.{size-le, systematic}
-use Rattle.codes.proofs.Drafts.{behind, value-free, value-other, shifted}
+use Rattle.codes.proofs.Drafts.{count-behind, value-from}
 use Rattle.codes.proofs.message.value_at.Statement.{statement}
 use Rattle.codes.proofs.message.value_at.Tie as tie
 
@@ -22,8 +23,8 @@ parted : (s : tie.Start) →
     count (drop (suc (s .args .column)) (projection (s .args .code) .free)) + count (map not (drop (suc (s .args .column)) (projection (s .args .code) .free)))
     ≡ size (projection (s .args .code)) - suc (s .args .column)
 parted s =
-    behind (projection (s .args .code) .free) (s .args .column) (omega (arith, s .pre, systematic (s .args .code) .marks))
-    ∙ ap (λ (n : ℕ). n - suc (s .args .column)) (systematic (s .args .code) .marks)
+    count-behind (projection (s .args .code) .free) (s .args .column)
+    ∙ ap (λ (n : ℕ). n - suc (s .args .column)) (systematic (s .args .code) .flags)
 
 columns-requires : tie.Need-columns-requires
 columns-requires c κs = search needs
@@ -41,10 +42,14 @@ mul-result : tie.Need-mul-result
 mul-result c = let s = c .before .before .before .before in omega (arith, parted s, size-le (s .args .code))
 
 add-result : tie.Need-add-result
-add-result c = let s = c .before .before .before .before in omega (arith, parted s, size-le (s .args .code), c .before .before .before .columns .ensures)
+add-result c =
+    let s = c .before .before .before .before in
+    omega (arith, parted s, size-le (s .args .code), c .before .before .before .columns .ensures)
 
 shr-result : tie.Need-shr-result
-shr-result c = let s = c .before .before .before .before in omega (arith, parted s, size-le (s .args .code), c .before .before .before .columns .ensures)
+shr-result c =
+    let s = c .before .before .before .before in
+    omega (arith, parted s, size-le (s .args .code), c .before .before .before .columns .ensures)
 
 cast-result : tie.Need-cast-result
 cast-result c = search needs
@@ -54,11 +59,14 @@ returns c =
     let s = c .before .before .before .before in
     let a = s .args in
     let π = projection (a .code) in
-    let last : c .before .before .before .columns .result - 1 ≡ topBits π = ap (λ (n : ℕ). n - 1) (c .before .before .before .columns .ensures) in
-    symbol-mod (a .message / 2 ^ (c .before .before .before .columns .result - 1 + 2 * c .before .before .free-behind .result))
-    ∙ ap₂ (λ (k f : ℕ). symbolOf (a .message / 2 ^ (k + 2 * f))) last (c .before .before .free-behind .ensures)
-    ∙ ap symbolOf (sym (shifted (a .message) (topBits π) (count (drop (suc (a .column)) (π .free)))))
-    ∙ sym (value-free (π .free) (a .column) (omega (arith, s .pre, systematic (a .code) .marks)) (a .message / 2 ^ topBits π) (a .syndrome) (sym (c .before .is-free .ensures) ∙ c .if1 .taken))
+    let columns = c .before .before .before .columns in
+    let free = c .before .before .free-behind in
+    let last : columns .result - 1 ≡ topBits π = ap (λ (n : ℕ). n - 1) (columns .ensures) in
+    symbol-mod (a .message / 2 ^ (columns .result - 1 + 2 * free .result))
+    ∙ ap₂ (λ (k f : ℕ). symbolOf (a .message / 2 ^ (k + 2 * f))) last (free .ensures)
+    ∙ ap symbolOf (sym (shift-shift (a .message) (topBits π) (count (drop (suc (a .column)) (π .free)))))
+    ∙ sym (value-from (π .free) (a .column) (omega (arith, s .pre, systematic (a .code) .flags)) (a .message / 2 ^ topBits π) (a .syndrome)
+    (sym (c .before .is-free .ensures) ∙ c .if1 .taken))
 
 sub-others : tie.Need-sub-others
 sub-others c = search needs
@@ -80,12 +88,15 @@ returns-2 c =
     let s = c .before .before .before .before in
     let a = s .args in
     let π = projection (a .code) in
-    let others : c .before .before .before .columns .result - 1 - a .column - c .before .before .free-behind .result ≡ count (map not (drop (suc (a .column)) (π .free))) =
-    omega (arith, parted s, c .before .before .free-behind .ensures, c .before .before .before .columns .ensures) in
-    symbol-mod (a .syndrome / 2 ^ (2 * (c .before .before .before .columns .result - 1 - a .column - c .before .before .free-behind .result)))
+    let columns = c .before .before .before .columns in
+    let free = c .before .before .free-behind in
+    let others : columns .result - 1 - a .column - free .result ≡ count (map not (drop (suc (a .column)) (π .free))) =
+    omega (arith, parted s, free .ensures, columns .ensures) in
+    symbol-mod (a .syndrome / 2 ^ (2 * (columns .result - 1 - a .column - free .result)))
     ∙ ap (λ (k : ℕ). symbolOf (a .syndrome / 2 ^ (2 * k))) others
     ∙ ap (λ (x : ℕ). symbolOf (a .syndrome / x)) (sym (pow-mul 2 2 (count (map not (drop (suc (a .column)) (π .free))))))
-    ∙ sym (value-other (π .free) (a .column) (omega (arith, s .pre, systematic (a .code) .marks)) (a .message / 2 ^ topBits π) (a .syndrome) (sym (c .before .is-free .ensures) ∙ c .if1 .left))
+    ∙ sym (value-from (π .free) (a .column) (omega (arith, s .pre, systematic (a .code) .flags)) (a .message / 2 ^ topBits π) (a .syndrome)
+    (sym (c .before .is-free .ensures) ∙ c .if1 .left))
 
 pub value-at-spec : {M : Type 1} → statement M
 value-at-spec =

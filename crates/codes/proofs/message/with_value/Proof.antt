@@ -1,4 +1,4 @@
--- `codes::message::with_value` meets its contract.
+-- `codes::message::with_value` meets its contract: by whether the column is free; a value is below 4, so the number has room for it.
 -- Assumes nothing.
 use mathlib.Core.Path.{sym, ap, _∙_}
 use mathlib.Core.Bool.{Bool, cond}

@@ -1,5 +1,6 @@
--- `codes::search::seek` meets its contract: each of its answers is a step of the search's theory. It ends, since the number of columns
--- ahead falls. The loop's invariant: no codeword is within k - 1 positions with a row that was passed inverted.
+-- `codes::search::seek` meets its contract: where no column lacks the parity the word is settled; else a column that has the parity is
+-- passed, and one that lacks it is tried with each row inverted. It ends, since the number of columns ahead falls. The loop's invariant:
+-- with none of the rows that were tried inverted is a codeword within k - 1 positions.
 -- Assumes nothing.
 use mathlib.Core.Path.{sym, _∙_, subst}
 use Prim.Native.Nat.{ℕ, _-_, _/_, _^_, _≤_, _<_}
@@ -9,14 +10,15 @@ use borrow.Author.Count.{below-more}
 use borrow.Author.Needs.{needs}
 use borrow.Fn.Kinds.{In}
 use borrow.Fn.PlainCycle.{Measures, is, falls, and}
+use Rattle.symbols.proofs.Symbols.{unequal-xor}
 use Rattle.codes.specs.Codes.{projection}
 use Rattle.codes.specs.Word.{word, isCodewordOf}
 use Rattle.codes.specs.Search.{inverted, Within}
 use Rattle.codes.proofs.Codes.{size-le}
-use Rattle.codes.proofs.Words.{codeword-parts, same-bit}
-use Rattle.codes.proofs.Walks.{xor-code}
+use Rattle.codes.proofs.Words.{codeword-parts, beq-true}
 use Rattle.codes.proofs.Differences.{lacks-none}
-use Rattle.codes.proofs.Searches.{sought-one, sought-none, row-small, lacks-other, column-ahead, column-inside, seek-skip, seek-row, seek-none, seek-found}
+use Rattle.codes.proofs.Searches.{sought-one, sought-none}
+use Rattle.codes.proofs.Seeking.{row-small, lacks-other, column-ahead, column-inside, seek-skip, seek-row, seek-none, seek-found}
 use Rattle.codes.proofs.Tables.{searchable}
 use Rattle.codes.proofs.search.seek.Reads as seek
 use Rattle.codes.proofs.search.seek.Kinds as kinds
@@ -53,7 +55,9 @@ claims t = (
 
 abbrev Inv-loop : lts.InvT-loop
 Inv-loop code scaled table columns p i left k s off x j row₀ row =
-    (row ≤ 4) × ((r : ℕ) → r < row → (y : ℕ) → Within (projection code) (isCodewordOf (projection code) p) (k - 1) (inverted (projection code) x (i - 1) (8 / 2 ^ r)) y → ⊥)
+    (row ≤ 4)
+    × ((r : ℕ) → r < row →
+    (y : ℕ) → Within (projection code) (isCodewordOf (projection code) p) (k - 1) (inverted (projection code) x (i - 1) (8 / 2 ^ r)) y → ⊥)
 
 abbrev μ-loop : lts.MeasureT-loop
 μ-loop code scaled table columns p i left k s off x j row₀ row = 4 - row
@@ -95,7 +99,7 @@ seek-requires t c κs =
     let s = c .before .before .before .before .before .before in
     let some = c .before .before .before .before .before .if1 .left in (
       omega (arith, s .pre .0, column-ahead (s .pre .1 .1) some),
-      (s .pre .1 .0, seek-skip (s .pre .1 .1) some (sym (c .before .parity .ensures) ∙ same-bit _ _ (c .if3 .taken))),
+      (s .pre .1 .0, seek-skip (s .pre .1 .1) some (sym (c .before .parity .ensures) ∙ beq-true _ _ (c .if3 .taken))),
     )
 
 returns-3 : (t : ℕ) → lts.Need-returns-3 (claims t) (Asks t) seek.Post Inv-loop μ-loop
@@ -115,7 +119,8 @@ shr-inverted t c = omega arith
 inverted-requires : (t : ℕ) → lts.Need-inverted-requires (claims t) (Asks t) seek.Post Inv-loop μ-loop
 inverted-requires t c κs =
     let s = c .before .before .before .before .before .before .before .before .before in
-    (column-inside (s .pre .1 .1) (c .before .before .before .before .before .before .before .before .if1 .left), row-small (c .before .before .loop .row) (c .before .loop-test .taken))
+    let some = c .before .before .before .before .before .before .before .before .if1 .left in
+    (column-inside (s .pre .1 .1) some, row-small (c .before .before .loop .row) (c .before .loop-test .taken))
 
 sub-seek : (t : ℕ) → lts.Need-sub-seek (claims t) (Asks t) seek.Post Inv-loop μ-loop
 sub-seek t c = omega arith
@@ -127,12 +132,13 @@ seek-requires-2 : (t : ℕ) → lts.Need-seek-requires-2 (claims t) (Asks t) see
 seek-requires-2 t c κs =
     let s = c .before .before .before .before .before .before .before .before .before .before in
     let some = c .before .before .before .before .before .before .before .before .before .if1 .left in
-    let lack = lacks-other _ _ (c .before .before .before .before .if3 .left) (c .before .before .before .before .before .parity .ensures) in (
+    let lack = lacks-other _ _ (c .before .before .before .before .if3 .left) (c .before .before .before .before .before .parity .ensures) in
+    let row = c .before .before .before .loop .row in (
       omega (arith, s .pre .0, column-ahead (s .pre .1 .1) some),
       (
         s .pre .1 .0,
-        seek-row (s .pre .1 .1) some lack (searchable (s .args .code)) (c .before .before .before .loop .row) (c .before .scaled-at .result) _ (c .inverted .result)
-            (c .before .before .loop-test .taken) (c .before .scaled-at .ensures) (xor-code (s .args .off) (eqb (c .before .before .before .loop .row) 0)) (c .inverted .ensures),
+        seek-row (s .pre .1 .1) some lack (searchable (s .args .code)) row (c .before .scaled-at .result) _ (c .inverted .result)
+            (c .before .before .loop-test .taken) (c .before .scaled-at .ensures) (unequal-xor (s .args .off) (eqb row 0)) (c .inverted .ensures),
       ),
     )
 
@@ -141,10 +147,11 @@ returns-4 t c =
     let s = c .before .before .before .before .before .before .before .before .before .before .before .before in
     let π = projection (s .args .code) in
     let test = isCodewordOf π (s .args .p) in
-    sought-one (c .before .seek2 .result)
-    (seek-found (s .pre .1 .1) (c .before .before .before .before .before .before .before .before .before .before .before .if1 .left) test
-    (c .before .before .before .before .before .loop .row) (c .before .seek2 .result) (c .before .before .before .before .loop-test .taken)
-    (subst (λ (z : ℕ). Within π test (s .args .k - 1) z (c .before .seek2 .result)) (c .before .before .inverted .ensures) (c .before .seek2 .ensures .found (c .if4 .taken))))
+    let some = c .before .before .before .before .before .before .before .before .before .before .before .if1 .left in
+    let y = c .before .seek2 .result in
+    sought-one y
+    (seek-found (s .pre .1 .1) some test (c .before .before .before .before .before .loop .row) y (c .before .before .before .before .loop-test .taken)
+    (subst (λ (z : ℕ). Within π test (s .args .k - 1) z y) (c .before .before .inverted .ensures) (c .before .seek2 .ensures .found (c .if4 .taken))))
     (c .if4 .taken)
 
 add-row : (t : ℕ) → lts.Need-add-row (claims t) (Asks t) seek.Post Inv-loop μ-loop

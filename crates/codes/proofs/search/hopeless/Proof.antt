@@ -1,4 +1,4 @@
--- `codes::search::hopeless` meets its contract: only a syndrome without an entry is called hopeless.
+-- `codes::search::hopeless` meets its contract: only a syndrome other than zero that has no entry is called hopeless, at k of at most 1.
 -- Assumes nothing.
 use mathlib.Core.Path.{sym, _∙_}
 use mathlib.Core.Bool.{false≢true}
@@ -6,9 +6,10 @@ use native.Mathlib.Omega.{arith}
 use borrow.Author.Needs.{needs}
 use borrow.Author.Tests.{eqb-true}
 use Rattle.codes.specs.Codes.{projection}
+use Rattle.codes.proofs.Codes.{packed-lt}
 use Rattle.codes.proofs.Differences.{entry-at}
 use Rattle.codes.proofs.Searches.{hopeless}
-use Rattle.codes.proofs.Tables.{searchable, packed-lt}
+use Rattle.codes.proofs.Tables.{searchable}
 use Rattle.codes.proofs.search.hopeless.Statement.{statement}
 use Rattle.codes.proofs.search.hopeless.Tie as tie
 

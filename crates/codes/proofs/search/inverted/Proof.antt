@@ -1,4 +1,4 @@
--- `codes::search::inverted` meets its contract: the shifted bits stay below the largest number.
+-- `codes::search::inverted` meets its contract: the shifted bits stay below 2 ^ 64.
 -- Assumes nothing.
 use mathlib.Core.Path.{ap, _∙_}
 use Prim.Native.Nat.{ℕ, _-_, _*_, _^_}

@@ -5,8 +5,9 @@ use mathlib.Core.Bool.{Bool}
 use native.Mathlib.Omega.{arith}
 use borrow.Author.Needs.{needs}
 use Rattle.symbols.specs.Symbol.{_⊻_}
-use Rattle.codes.proofs.Walks.{xor-code}
-use Rattle.codes.proofs.Searches.{sought-none, seek-start, too-many}
+use Rattle.symbols.proofs.Symbols.{unequal-xor}
+use Rattle.codes.proofs.Searches.{sought-none}
+use Rattle.codes.proofs.Seeking.{seek-start, too-many}
 use Rattle.codes.proofs.search.of_parity.Statement.{statement}
 use Rattle.codes.proofs.search.of_parity.Tie as tie
 
@@ -25,7 +26,8 @@ seek-requires c κs =
     let top = s .args .walk .top in
     let wanted = c .before .before .top-parity in (
       s .pre .0,
-      seek-start (s .pre .1) (omega arith) (c .columns .result) (c .columns .ensures) _ (xor-code top (wanted .result) ∙ ap (λ (b : Bool). top ⊻ b) (wanted .ensures)),
+      seek-start (s .pre .1) (omega arith) (c .columns .result) (c .columns .ensures) _
+          (unequal-xor top (wanted .result) ∙ ap (λ (b : Bool). top ⊻ b) (wanted .ensures)),
     )
 
 returns-2 : tie.Need-returns-2

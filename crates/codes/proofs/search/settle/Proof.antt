@@ -1,8 +1,7 @@
--- `codes::search::settle` meets its contract: each of its answers is a case of the search's theory.
+-- `codes::search::settle` meets its contract: the word itself, the word with two bits inverted of the column that the entry names, or none.
 -- Assumes nothing.
-use mathlib.Core.Path.{_≡_, sym, _∙_, subst}
+use mathlib.Core.Path.{sym, _∙_, subst}
 use mathlib.Core.Bool.{false}
-use mathlib.Core.List.{List}
 use Prim.Native.Nat.{ℕ, _%_, _<_}
 use native.Mathlib.Omega.{arith}
 use borrow.Author.Needs.{needs}
@@ -10,20 +9,16 @@ use lib.ListN.{getD}
 use Rattle.symbols.specs.Symbol.{symbolOf}
 use Rattle.symbols.specs.Column.{columnWith}
 use Rattle.symbols.proofs.Numbers.{column-number-lt}
-use Rattle.codes.specs.declared.code.Code.{Code}
 use Rattle.codes.specs.Codes.{projection}
 use Rattle.codes.specs.Word.{isCodewordOf}
-use Rattle.codes.specs.Search.{entryTable, Within, Sought}
-use Rattle.codes.proofs.Codes.{size-le}
+use Rattle.codes.specs.Search.{Within, Sought}
+use Rattle.codes.proofs.Codes.{size-le, packed-lt}
 use Rattle.codes.proofs.Differences.{Named, entry-at, entry-names}
-use Rattle.codes.proofs.Searches.{sought-none, sought-word, settle-here, settle-off, settle-few, settle-none, settle-pair}
-use Rattle.codes.proofs.Tables.{searchable, packed-lt}
+use Rattle.codes.proofs.Searches.{sought-none, sought-word}
+use Rattle.codes.proofs.Settling.{settle-here, settle-off, settle-few, settle-none, settle-pair}
+use Rattle.codes.proofs.Tables.{searchable}
 use Rattle.codes.proofs.search.settle.Statement.{statement}
 use Rattle.codes.proofs.search.settle.Tie as tie
-use Rattle.codes.proofs.search.settle.Reads as reads
-use Rattle.codes.proofs.search.settle.Lts as lts
-use Rattle.codes.proofs.search.inverted.Reads as inverted-reads
-use Rattle.symbols.proofs.column_with.Reads as column-with-reads
 
 returns : tie.Need-returns
 returns c =
@@ -38,7 +33,9 @@ returns-2 c =
 returns-3 : tie.Need-returns-3
 returns-3 c =
     let s = c .before .before in
-    λ p known par. sought-none (settle-few known par (s .args .k) (searchable (s .args .code)) (packed-lt (s .args .code) (omega arith)) (c .before .if1 .left) (c .if3 .taken))
+    λ p known par.
+    sought-none
+    (settle-few known par (s .args .k) (searchable (s .args .code)) (packed-lt (s .args .code) (omega arith)) (c .before .if1 .left) (c .if3 .taken))
 
 element-copy-out-entry : tie.Need-element-copy-out-entry
 element-copy-out-entry c = search needs
@@ -47,31 +44,35 @@ returns-4 : tie.Need-returns-4
 returns-4 c =
     let s = c .before .before .before .before in
     let none = sym (entry-at (projection (s .args .code)) (s .args .table .now) (s .args .s) (s .pre .0) (omega arith)) ∙ c .if4 .taken in
-    λ p known par. sought-none (settle-none known par (s .args .k) (searchable (s .args .code)) (packed-lt (s .args .code) (omega arith)) (c .before .before .before .if1 .left) none (s .pre .1))
+    λ p known par.
+    sought-none
+    (settle-none known par (s .args .k) (searchable (s .args .code)) (packed-lt (s .args .code) (omega arith))
+    (c .before .before .before .if1 .left) none (s .pre .1))
 
 -- what the entry that was read names
-read : (code : Code) (l : List ℕ) (s : ℕ) → l ≡ entryTable (projection code) → s < 256 → (getD l s 0 ≡ 0 → ⊥) → Named (projection code) s (getD l s 0)
-read code l s e h n =
-    let at = entry-at (projection code) l s e h in
-    subst (Named (projection code) s) (sym at) (entry-names (projection code) (searchable code .tabled) s (packed-lt code h) (λ z. n (at ∙ z)))
+named : (e : tie.Else4) →
+    Named (projection (e .before .before .before .before .args .code)) (e .before .before .before .before .args .s)
+    (getD (e .before .before .before .before .args .table .now) (e .before .before .before .before .args .s) 0)
+named e =
+    let s = e .before .before .before .before in
+    let π = projection (s .args .code) in
+    let at = entry-at π (s .args .table .now) (s .args .s) (s .pre .0) (omega arith) in
+    subst (Named π (s .args .s)) (sym at)
+    (entry-names π (searchable (s .args .code) .tabled) (s .args .s) (packed-lt (s .args .code) (omega arith)) (λ z. e .if4 .left (at ∙ z)))
 
 column-with-requires : tie.Need-column-with-requires
 column-with-requires c κs = search needs
 
 sub-inverted : tie.Need-sub-inverted
-sub-inverted c =
-    let s = c .before .before .before .before .before in
-    omega (arith, read (s .args .code) (s .args .table .now) (s .args .s) (s .pre .0) (omega arith) (c .before .if4 .left) .from)
+sub-inverted c = omega (arith, named (c .before) .from)
 
 cast-inverted : tie.Need-cast-inverted
-cast-inverted c =
-    let s = c .before .before .before .before .before in
-    omega (arith, read (s .args .code) (s .args .table .now) (s .args .s) (s .pre .0) (omega arith) (c .before .if4 .left) .place, size-le (s .args .code))
+cast-inverted c = omega (arith, named (c .before) .place, size-le (c .before .before .before .before .before .args .code))
 
 inverted-requires : tie.Need-inverted-requires
 inverted-requires c κs =
     let s = c .before .before .before .before .before in (
-      read (s .args .code) (s .args .table .now) (s .args .s) (s .pre .0) (omega arith) (c .before .if4 .left) .place,
+      named (c .before) .place,
       subst (λ (n : ℕ). n < 16) (sym (c .column-with .ensures))
           (column-number-lt (columnWith false (symbolOf (getD (s .args .table .now) (s .args .s) 0 % 4)) (s .args .off))),
     )
@@ -80,11 +81,11 @@ returns-5 : tie.Need-returns-5
 returns-5 c =
     let s = c .before .before .before .before .before .before in
     let π = projection (s .args .code) in
-    let named = read (s .args .code) (s .args .table .now) (s .args .s) (s .pre .0) (omega arith) (c .before .before .if4 .left) in
     λ p known par.
     subst (Sought (Within π (isCodewordOf π p) (s .args .k) (s .args .x))) (sym (c .inverted .ensures))
     (sought-word (searchable (s .args .code))
-    (settle-pair known par (s .args .k) (searchable (s .args .code)) (omega arith) named (c .before .column-with .result) (c .before .column-with .ensures)))
+    (settle-pair known par (s .args .k) (searchable (s .args .code)) (omega arith) (named (c .before .before))
+    (c .before .column-with .result) (c .before .column-with .ensures)))
 
 pub settle-spec : {M : Type 1} → statement M
 settle-spec =

@@ -1,4 +1,4 @@
--- `codes::search::within_three` meets its contract: a codeword is even or odd.
+-- `codes::search::within_three` meets its contract: a codeword is even or odd, and the number of odd columns tells how many lack each parity.
 -- Assumes nothing.
 use mathlib.Core.Path.{ap, _∙_}
 use mathlib.Core.Bool.{false}
@@ -7,7 +7,8 @@ use native.Mathlib.Omega.{arith}
 use borrow.Author.Needs.{needs}
 use Rattle.codes.specs.Codes.{projection}
 use Rattle.codes.proofs.Codes.{size-le}
-use Rattle.codes.proofs.Searches.{sought-one, odd-lacks, within-any, sought-either}
+use Rattle.codes.proofs.Searches.{sought-one}
+use Rattle.codes.proofs.Seeking.{odd-lacks, within-any, sought-either}
 use Rattle.codes.proofs.search.within_three.Statement.{statement}
 use Rattle.codes.proofs.search.within_three.Tie as tie
 
@@ -39,7 +40,8 @@ sub-left c =
     let s = c .before .before .before .before .before .before in
     let unpack = c .before .before .before .before .before .unpack in
     let walk = c .before .before .before .before .walk-columns in
-    omega (arith, odd-lacks (projection (s .args .code)) (unpack .result) (s .args .x) (walk .result .odd) (unpack .ensures) (walk .ensures .odd) .1, c .columns2 .ensures)
+    let lacking = odd-lacks (projection (s .args .code)) (unpack .result) (s .args .x) (walk .result .odd) (unpack .ensures) (walk .ensures .odd) in
+    omega (arith, lacking .1, c .columns2 .ensures)
 
 of-parity-requires-2 : tie.Need-of-parity-requires-2
 of-parity-requires-2 c κs =

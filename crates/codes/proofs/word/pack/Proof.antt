@@ -14,7 +14,7 @@ use Rattle.codes.specs.Codes.{projection}
 use Rattle.codes.specs.Walk.{held}
 use Rattle.codes.proofs.Digits.{columns-fit}
 use Rattle.codes.proofs.Horner.{followed, followed-next, followed-none, followed-le}
-use Rattle.codes.proofs.Codes.{size-le, systematic}
+use Rattle.codes.proofs.Codes.{size-le}
 use Rattle.codes.proofs.Messages.{word-below}
 use Rattle.codes.proofs.Walks.{length-held, held-from}
 use Rattle.codes.proofs.word.pack.Statement.{statement}
@@ -42,7 +42,7 @@ small c =
       arith,
       followed-le columns columns-fit (c .loop .number) (drop (c .loop .i) (held (projection code) a)),
       c .loop .inv .1,
-      word-below (held (projection code) a) (omega (arith, length-held (projection code) (systematic code .shape) a (omega (arith, size-le code)), size-le code)),
+      word-below (held (projection code) a) (omega (arith, length-held (projection code) a (omega (arith, size-le code)), size-le code)),
     )
 
 mul-number : tie.Need-mul-number Inv-loop μ-loop
@@ -75,7 +75,7 @@ loop-again c =
       ap (λ (j : ℕ). followed columns (l .number * 16 + getD a (l .i) 0 % 16) (drop j (held (projection code) a))) (add-one (l .i))
           ∙ ap (λ (x : ℕ). followed columns (l .number * 16 + x) rest) (sym (columns-fit .there (getD a (l .i) 0)))
           ∙ sym (followed-next columns (l .number) column rest)
-          ∙ ap (followed columns (l .number)) (sym (held-from (projection code) (systematic code .shape) a (omega (arith, size-le code)) (l .i) below))
+          ∙ ap (followed columns (l .number)) (sym (held-from (projection code) a (omega (arith, size-le code)) (l .i) below))
           ∙ l .inv .1,
     )
 
@@ -86,7 +86,7 @@ returns c =
     let l = c .before .before .loop in
     sym (followed-none columns (l .number))
     ∙ ap (followed columns (l .number)) (sym (drop-of-length-le (held (projection code) a) {i = l .i}
-    (omega (arith, c .before .columns .ensures, length-held (projection code) (systematic code .shape) a (omega (arith, size-le code))))))
+    (omega (arith, c .before .columns .ensures, length-held (projection code) a (omega (arith, size-le code))))))
     ∙ l .inv .1
 
 pub pack-spec : {M : Type 1} → statement M

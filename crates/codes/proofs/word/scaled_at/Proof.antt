@@ -1,4 +1,4 @@
--- `codes::word::scaled_at` meets its contract: the table's rule.
+-- `codes::word::scaled_at` meets its contract: the table has four entries for each column, in the order of the symbols.
 -- Assumes nothing.
 use mathlib.Core.Path.{ap, _∙_}
 use mathlib.Core.List.{List}

@@ -12,14 +12,15 @@ use Rattle.symbols.specs.Column.{columnOf}
 use Rattle.codes.specs.Digits.{columns, digits}
 use Rattle.codes.specs.Projection.{size}
 use Rattle.codes.specs.Codes.{projection}
-use Rattle.codes.proofs.Arrays.{unpack-step, next-digit}
+use Rattle.codes.proofs.Arrays.{unpack-step, next-quotient}
 use Rattle.codes.proofs.Codes.{size-le}
 use Rattle.codes.proofs.word.unpack.Statement.{statement}
 use Rattle.codes.proofs.word.unpack.Tie as tie
 
 abbrev Inv-loop : tie.InvT-loop
 Inv-loop packed stored₀ rest₀ i₀ stored rest i =
-    (i ≤ i₀) × (i₀ ≤ 10) × (length stored ≡ 10) × (rest ≡ packed / 16 ^ (i₀ - i)) × (map columnOf (take (i₀ - i) (drop i stored)) ≡ digits columns (i₀ - i) packed)
+    (i ≤ i₀) × (i₀ ≤ 10) × (length stored ≡ 10) × (rest ≡ packed / 16 ^ (i₀ - i))
+    × (map columnOf (take (i₀ - i) (drop i stored)) ≡ digits columns (i₀ - i) packed)
 
 abbrev μ-loop : tie.MeasureT-loop
 μ-loop packed stored₀ rest₀ i₀ stored rest i = i
@@ -61,7 +62,7 @@ loop-again c =
       omega arith,
       omega arith,
       simp length-set (l .inv .2),
-      ap (λ (x : ℕ). x / 16) (l .inv .3) ∙ next-digit k n ∙ ap (λ (j : ℕ). n / 16 ^ j) (sym more),
+      ap (λ (x : ℕ). x / 16) (l .inv .3) ∙ next-quotient k n ∙ ap (λ (j : ℕ). n / 16 ^ j) (sym more),
       ap₂ (λ (j v : ℕ). map columnOf (take j (drop (l .i - 1) (set (l .columns) (l .i - 1) (v % 16))))) more (l .inv .3)
           ∙ unpack-step (l .columns) (l .i - 1) k n (omega arith) (ap (λ (j : ℕ). map columnOf (take k (drop j (l .columns)))) next ∙ l .inv .4)
           ∙ ap (λ (j : ℕ). digits columns j n) (sym more),
@@ -71,7 +72,8 @@ returns : tie.Need-returns Inv-loop μ-loop
 returns c =
     let l = c .before .loop in
     let n = c .before .before .before .args .packed in
-    let whole : c .before .before .columns .result - l .i ≡ size (projection (c .before .before .before .args .code)) = omega (arith, c .before .before .columns .ensures) in
+    let m = size (projection (c .before .before .before .args .code)) in
+    let whole : c .before .before .columns .result - l .i ≡ m = omega (arith, c .before .before .columns .ensures) in
     let first : l .i ≡ 0 = omega arith in
     ap₂ (λ (j k : ℕ). map columnOf (take j (drop k (l .columns)))) (sym whole) (sym first) ∙ l .inv .4 ∙ ap (λ (k : ℕ). digits columns k n) whole
 

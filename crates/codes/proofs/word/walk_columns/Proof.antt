@@ -1,4 +1,5 @@
--- `codes::word::walk_columns` meets its contract. At the loop's head everything is collected of the columns from i on.
+-- `codes::word::walk_columns` meets its contract. At the loop's head everything is collected of the columns from i on, and the odd ones
+-- among them and the i columns ahead are at most ten, so that their number fits a byte.
 -- Assumes nothing.
 use mathlib.Core.Path.{_≡_, sym, ap, _∙_, subst, subst₂}
 use mathlib.Core.Bool.{Bool, false, not, Bool·beq}
@@ -42,7 +43,8 @@ loop-holds c =
     let code = c .before .args .code in
     let full = c .columns .ensures in (
       omega arith,
-      subst (From code (c .before .args .t3) 0 false 0) (sym full) (walk-start (projection code) (systematic code .shape) (c .before .args .t3) (omega (arith, size-le code))),
+      subst (From code (c .before .args .t3) 0 false 0) (sym full)
+          (walk-start (projection code) (c .before .args .t3) (omega (arith, size-le code))),
       omega (arith, size-le code),
     )
 
@@ -80,19 +82,19 @@ loop-again : tie.Need-loop-again Inv-loop μ-loop
 loop-again c =
     let start = c .before .before .before .before .before .before .before .before in
     let l = c .before .before .before .before .before .before .loop in
-    let test = c .before .before .before .before .before .loop-test in
     let code = start .args .code in
     let a = start .args .t3 in
     let column = columnOf (getD a (l .i - 1) 0) in
     let next : suc (l .i - 1) ≡ l .i = omega arith in
     let symbol : symbolOf (c .before .before .before .before .value .result) ≡ value column =
     ap symbolOf (c .before .before .before .before .value .ensures) ∙ symbol-of-number (value column) in
-    let here = walk-step (projection code) (systematic code .shape) a (omega (arith, size-le code)) (l .i - 1) (omega arith) (l .syndrome) (l .top) (l .odd)
+    let here = walk-step (projection code) a (omega (arith, size-le code)) (systematic code .shape) (l .i - 1) (omega arith) (l .syndrome) (l .top) (l .odd)
     (c .before .before .before .scaled-at .result)
     (c .before .before .before .scaled-at .ensures ∙ ap (λ (v : Symbol). numberOf symbols (scale v (getD (projection code .matrix) (l .i - 1) []))) symbol)
     (subst (From code a (l .syndrome) (l .top) (l .odd)) (sym next) (l .inv .1)) in (
       omega arith,
-      subst₂ (λ (t : Bool) (n : ℕ). From code a (bitXor (l .syndrome) (c .before .before .before .scaled-at .result)) (not (Bool·beq (l .top) t)) (l .odd + n) (l .i - 1))
+      subst₂ (λ (t : Bool) (n : ℕ).
+          From code a (bitXor (l .syndrome) (c .before .before .before .scaled-at .result)) (not (Bool·beq (l .top) t)) (l .odd + n) (l .i - 1))
           (sym (c .before .before .top .ensures)) (sym (c .one .ensures ∙ ap one (c .before .parity .ensures))) here,
       omega (arith, c .one .ensures, one-le (c .before .parity .result)),
     )

@@ -35,9 +35,9 @@ unfolding encode
 returns-2 c =
     let a = c .before .before .before .before .args in
     let π = projection (a .self) in
+    let fits = subst (λ (n : ℕ). a .message < n) (c .before .before .before .message-limit .ensures) (c .before .before .if1 .left) in
     ap (λ (n : ℕ). accepted (n ∷ [])) (c .pack .ensures ∙ ap wordNumber (c .before .codeword .ensures))
-    ∙ sym (row-passed 2 [] (accepted (encode π (a .message) ∷ []))
-    (lt-leb (2 ^ messageBits π) (a .message) (subst (λ (n : ℕ). a .message < n) (c .before .before .before .message-limit .ensures) (c .before .before .if1 .left))))
+    ∙ sym (row-passed 2 [] (accepted (encode π (a .message) ∷ [])) (lt-leb (2 ^ messageBits π) (a .message) fits))
 
 pub encode-spec : {M : Type 1} → statement M
 encode-spec =

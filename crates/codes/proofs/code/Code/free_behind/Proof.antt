@@ -2,10 +2,10 @@
 -- Assumes nothing.
 use mathlib.Core.Path.{_≡_, sym, ap}
 use Prim.Native.Nat.{ℕ, suc}
-use lib.ListN.{getD, drop, drop-of-length-le}
-use Rattle.codes.specs.Projection.{count}
 use native.Mathlib.Omega.{arith}
+use lib.ListN.{getD, drop, drop-of-length-le}
 use borrow.Author.Needs.{needs}
+use Rattle.codes.specs.Projection.{count}
 use Rattle.codes.specs.declared.code.Code.{Code}
 use Rattle.codes.specs.declared.code.Code.the-variants.{O36, O40}
 use Rattle.codes.specs.Codes.{projection}
@@ -20,7 +20,7 @@ entry k i = count (drop (suc i) (projection k .free))
 returns : tie.Need-returns
 returns c =
     let code = c .before .args .self in
-    sym (ap count (drop-of-length-le (projection code .free) {i = suc (c .before .args .column)} (omega (arith, size-le code, systematic code .marks))))
+    sym (ap count (drop-of-length-le (projection code .free) {i = suc (c .before .args .column)} (omega (arith, size-le code, systematic code .flags))))
 
 mul-result : tie.Need-mul-result
 mul-result c = search needs

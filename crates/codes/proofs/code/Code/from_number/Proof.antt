@@ -1,17 +1,17 @@
--- `codes::Code::from_number` meets its contract: each number of the list, and the rest.
+-- `codes::Code::from_number` meets its contract: the numbers 1 to 4 one by one, and any other, which is no code's.
 -- Assumes nothing.
 use mathlib.Core.Path.{_≡_, refl, sym, ap}
-use mathlib.Core.Bool.{Bool, true, false, cond, _&&_}
+use mathlib.Core.Bool.{Bool, true, false, _&&_}
 use Prim.Native.Nat.{ℕ}
 use native.Mathlib.Omega.{arith}
 use borrow.Author.Tests.{leb-true}
 use lib.Dec.{leb}
-use Rattle.codes.specs.declared.code.CodeFound.{CodeFound}
-use Rattle.codes.specs.declared.answer.Refusal.the-variants.{UnknownCode}
-use Rattle.codes.specs.Codes.{isCode, codeOf, codeFound}
+use Rattle.codes.specs.Codes.{isCode, codeFound}
+use Rattle.codes.proofs.Answers.{found-by}
 use Rattle.codes.proofs.code.Code.from_number.Statement.{statement}
 use Rattle.codes.proofs.code.Code.from_number.Tie as tie
 
+-- a number other than 1 to 4 is no code's
 unknown : (n : ℕ) → (n ≡ 1 → ⊥) → (n ≡ 2 → ⊥) → (n ≡ 3 → ⊥) → (n ≡ 4 → ⊥) → isCode n ≡ false
 unknown n h1 h2 h3 h4 = go (leb 1 n) (leb n 4) refl refl
   where
@@ -37,8 +37,7 @@ returns-5 : tie.Need-returns-5
 returns-5 c =
     let n = c .before .args .number in
     let rest = c .match .rest in
-    sym (ap (λ (b : Bool). cond b (CodeFound.Code (codeOf n)) (CodeFound.Refused UnknownCode))
-    (unknown n (rest .0 .0 .0 .1) (rest .0 .0 .1) (rest .0 .1) (rest .1)))
+    sym (found-by n (unknown n (rest .0 .0 .0 .1) (rest .0 .0 .1) (rest .0 .1) (rest .1)))
 
 pub from-number-spec : {M : Type 1} → statement M
 from-number-spec = tie.close (tie.spec returns returns-2 returns-3 returns-4 returns-5)

@@ -3,8 +3,8 @@
 use mathlib.Core.Path.{_≡_, sym}
 use mathlib.Core.Bool.{Bool, false}
 use Prim.Native.Nat.{ℕ}
-use lib.ListN.{getD, List·getD-eq-default}
 use native.Mathlib.Omega.{arith}
+use lib.ListN.{getD, List·getD-eq-default}
 use borrow.Author.Needs.{needs}
 use Rattle.codes.specs.declared.code.Code.{Code}
 use Rattle.codes.specs.declared.code.Code.the-variants.{O36, O40}
@@ -20,7 +20,7 @@ entry k i = getD (projection k .free) i false
 returns : tie.Need-returns
 returns c =
     let code = c .before .args .self in
-    sym (List·getD-eq-default (projection code .free) false {n = c .before .args .column} (omega (arith, size-le code, systematic code .marks)))
+    sym (List·getD-eq-default (projection code .free) false {n = c .before .args .column} (omega (arith, size-le code, systematic code .flags)))
 
 array-read-result : tie.Need-array-read-result
 array-read-result c = search needs

@@ -16,7 +16,9 @@ shl-result : tie.Need-shl-result
 shl-result c = omega (arith, c .message-bits .ensures, bits-le (c .before .args .self))
 
 returns : tie.Need-returns
-returns c = power-fits (c .message-bits .result) (omega (arith, c .message-bits .ensures, bits-le (c .before .args .self))) ∙ ap (λ (k : ℕ). 2 ^ k) (c .message-bits .ensures)
+returns c =
+    power-fits (c .message-bits .result) (omega (arith, c .message-bits .ensures, bits-le (c .before .args .self)))
+    ∙ ap (λ (k : ℕ). 2 ^ k) (c .message-bits .ensures)
 
 pub message-limit-spec : {M : Type 1} → statement M
 message-limit-spec = tie.close (tie.spec message-bits-requires shl-result returns)

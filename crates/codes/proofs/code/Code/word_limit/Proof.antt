@@ -16,7 +16,9 @@ shl-result : tie.Need-shl-result
 shl-result c = omega (arith, c .width .ensures, width-le (c .before .args .self))
 
 returns : tie.Need-returns
-returns c = power-fits (c .width .result) (omega (arith, c .width .ensures, width-le (c .before .args .self))) ∙ ap (λ (k : ℕ). 2 ^ k) (c .width .ensures)
+returns c =
+    power-fits (c .width .result) (omega (arith, c .width .ensures, width-le (c .before .args .self)))
+    ∙ ap (λ (k : ℕ). 2 ^ k) (c .width .ensures)
 
 pub word-limit-spec : {M : Type 1} → statement M
 word-limit-spec = tie.close (tie.spec width-requires shl-result returns)
