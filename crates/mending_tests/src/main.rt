@@ -1,17 +1,23 @@
-// Mending, tried against a search through all codewords: each codeword of a code is made once and held against every word that is
-// tried, by `correct` and by a read of a slot that holds it. Document 01's words that are no theorems are among them, and are shown.
+// Mending, tried against a search through all codewords: each codeword of a code is made once and held against every word that is tried.
+// Half of the words are samples, tried by `correct`; half are left in slots by random lists of trace calls, and are read too.
+// Document 01's words that are no theorems are among the samples, and are shown.
+mod compare;
+mod draws;
 mod lists;
 mod samples;
+mod search;
+mod slots;
+mod words;
 
 use codes::Corrected;
 use codes::Correction;
-use codes::Encoded;
 use libc::STDOUT_FILENO;
-use samples::WORDS;
-use samples::ones;
-use samples::prepare;
-use samples::wrong;
-ghost use Prim.Native.Nat.{_≤_, _<_};
+use lists::LISTS;
+use lists::Trial;
+use lists::slots_in;
+use search::WORDS;
+use search::search;
+use search::words_with;
 
 fn text(bytes: &[u8]) {
     io::write_all(STDOUT_FILENO, bytes);
@@ -50,126 +56,51 @@ fn show_near(c: Correction) {
     decimal(c.marks);
 }
 
-// One more codeword is near: 0, 1, or 2 for more than one.
-fn one_more(near: u64) -> u64 {
-    if near == 0 { 1 } else { 2 }
-}
-
-// Holds a message's codeword against each word: where it is near, the message is kept, and one more is counted.
-fn hold(
-    codeword: u64,
-    message: u64,
-    words: &[u64; 52],
-    marks: &[u64; 52],
-    near: &mut [u64; 52],
-    kept: &mut [u64; 52],
-) {
-    let mut j: usize = 0;
-    while j < WORDS {
-        if 2 * wrong(codeword, words[j], marks[j]) + ones(marks[j]) <= 7 {
-            near[j] = one_more(near[j]);
-            kept[j] = message;
-        }
-        j += 1;
+// How many slots have each sum from 0 to 10.
+fn show_sums(code: u64, trials: [Trial; LISTS]) {
+    let mut sum: u64 = 0;
+    while sum <= 10 {
+        text(b" ");
+        decimal(slots_in(code, trials, sum));
+        sum += 1;
     }
 }
 
-// Holds every codeword of a code against each word.
-fn search(
-    code: u64,
-    limit: u64,
-    words: &[u64; 52],
-    marks: &[u64; 52],
-    near: &mut [u64; 52],
-    kept: &mut [u64; 52],
-) {
-    let mut message: u64 = 0;
-    while message < limit {
-        if let Encoded::Word(codeword) = codes::encode(code, message) {
-            hold(codeword, message, words, marks, near, kept);
-        }
-        message += 1;
-    }
+// How many slots are in each group, on a line.
+fn show_groups(code: u64, trials: [Trial; LISTS]) {
+    text(b"code ");
+    decimal(code);
+    text(b": slots by sum 0 to 10:");
+    show_sums(code, trials);
+    text(b", above 10: ");
+    decimal(slots_in(code, trials, 11));
+    text(b", blank: ");
+    decimal(slots_in(code, trials, 12));
+    text(b"\n");
 }
 
-// Whether an answer is what the search found.
-fn agrees(code: u64, word: u64, marks: u64, near: u64, kept: u64) -> bool {
-    match codes::correct(code, word, marks) {
-        Corrected::Near(c) => near == 1
-            && is_codeword_of(code, kept, c)
-            && c.wrong == wrong(c.codeword, word, marks)
-            && c.marks == ones(marks),
-        Corrected::Refused(r) => near == 0 && r.number() == 5,
-    }
-}
-
-// Whether a correction has a message and its codeword.
-fn is_codeword_of(code: u64, message: u64, c: Correction) -> bool {
-    let Encoded::Word(codeword) = codes::encode(code, message) else {
-        return false;
-    };
-    c.message == message && c.codeword == codeword
-}
-
-fn counted(bit: bool) -> u64
-    ensures { λ r. ⌜ r ≤ 1 ⌝ }
-{
-    if bit { 1 } else { 0 }
-}
-
-// The words near which the search found n codewords.
-fn words_with(near: &[u64; 52], n: u64) -> u64 {
-    let mut count: u64 = 0;
-    let mut j: usize = 0;
-    while j < WORDS {
-        count = count + counted(near[j] == n);
-        j += 1;
-    }
-    count
-}
-
-// How often `correct`, or a read, says something else than the search.
-fn disagreements(
-    b: &[u8; 580],
-    code: u64,
-    words: &[u64; 52],
-    marks: &[u64; 52],
-    near: &[u64; 52],
-    kept: &[u64; 52],
-) -> u64 {
-    let mut count: u64 = 0;
-    let mut j: usize = 0;
-    while j < WORDS {
-        let mended = agrees(code, words[j], marks[j], near[j], kept[j]);
-        let read = lists::agrees(b, code, j as u64, words[j], marks[j], near[j], kept[j]);
-        count = count + counted(!mended) + counted(!read);
-        j += 1;
-    }
-    count
-}
-
-// Tries a code: how many of the words are mended, how many refused, and how often the search and the library disagree.
-fn report(code: u64, width: u64, limit: u64)
-    requires { ⌜ (8 ≤ width) × (width ≤ 40) × (0 < limit) ⌝ }
-{
-    let mut b = [0u8; 580];
-    let mut messages = [0u64; 52];
-    let mut words = [0u64; 52];
-    let mut marks = [0u64; 52];
-    let mut near = [0u64; 52];
-    let mut kept = [0u64; 52];
-    prepare(code, width, limit, &mut messages, &mut words, &mut marks);
-    lists::fill(&mut b, code, width, &messages, &words, &marks);
-    search(code, limit, &words, &marks, &mut near, &mut kept);
+// Tries a code: how many of the words are mended, how many refused, how often the search and the library disagree, and which sums the
+// lists leave in slots.
+fn report(code: u64) {
+    let mut words = [0u64; WORDS];
+    let mut marks = [0u64; WORDS];
+    samples::prepare(code, &mut words, &mut marks);
+    let trials = lists::run_all(code);
+    lists::append(trials, &mut words, &mut marks);
+    let found = search(code, &words, &marks);
     text(b"code ");
     decimal(code);
     text(b": mended ");
-    decimal(words_with(&near, 1));
+    decimal(words_with(found, 1));
     text(b", refused ");
-    decimal(words_with(&near, 0));
+    decimal(words_with(found, 0));
     text(b", disagreements ");
-    decimal(disagreements(&b, code, &words, &marks, &near, &kept));
+    decimal(
+        compare::disagreements_of_correct(code, &words, &marks, found)
+            + compare::disagreements_of_reads(code, trials, found),
+    );
     text(b"\n");
+    show_groups(code, trials);
 }
 
 fn main() {
@@ -181,8 +112,8 @@ fn main() {
     show(0, 0, 0);
     show(5, 0, 0);
     show(3, 0x10000000000, 18446744073709551615);
-    report(1, 36, 524288);
-    report(2, 36, 524288);
-    report(3, 40, 4194304);
-    report(4, 40, 4194304);
+    report(1);
+    report(2);
+    report(3);
+    report(4);
 }

@@ -7,10 +7,16 @@ use Rattle.mending_tests.proofs.samples.around_codewords.Statement.{sta
 use Rattle.mending_tests.proofs.samples.around_codewords.Tie as tie
 
 abbrev Inv-loop : tie.InvT-loop
-Inv-loop code width limit messages₀ words₀ marks₀ state₀ j₀ messages words marks state j = j ≤ 44
+Inv-loop code words₀ marks₀ width messages state₀ j₀ words marks state j = j ≤ 44
 
 abbrev μ-loop : tie.MeasureT-loop
-μ-loop code width limit messages₀ words₀ marks₀ state₀ j₀ messages words marks state j = 44 - j
+μ-loop code words₀ marks₀ width messages state₀ j₀ words marks state j = 44 - j
+
+width-requires : tie.Need-width-requires Inv-loop μ-loop
+width-requires c κs = search needs
+
+messages-requires : tie.Need-messages-requires Inv-loop μ-loop
+messages-requires c κs = search needs
 
 loop-holds : tie.Need-loop-holds Inv-loop μ-loop
 loop-holds c = omega arith
@@ -32,12 +38,6 @@ rem-message c = omega arith
 
 draw-requires-2 : tie.Need-draw-requires-2 Inv-loop μ-loop
 draw-requires-2 c κs = search needs
-
-mul-messages : tie.Need-mul-messages Inv-loop μ-loop
-mul-messages c = omega arith
-
-element-write-messages : tie.Need-element-write-messages Inv-loop μ-loop
-element-write-messages c = omega arith
 
 codeword-requires : tie.Need-codeword-requires Inv-loop μ-loop
 codeword-requires c κs = search needs
@@ -81,6 +81,8 @@ around-codewords-spec =
     (tie.spec
     Inv-loop
     μ-loop
+    width-requires
+    messages-requires
     loop-holds
     least-requires
     mul-marked
@@ -88,8 +90,6 @@ around-codewords-spec =
     draw-requires
     rem-message
     draw-requires-2
-    mul-messages
-    element-write-messages
     codeword-requires
     add-spread
     spread-requires

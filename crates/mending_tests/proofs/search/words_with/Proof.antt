@@ -1,16 +1,16 @@
--- `mending_tests::words_with` is safe: no more is counted than there are words.
+-- `mending_tests::search::words_with` is safe: no more is counted than there are words.
 -- Assumes nothing.
 use Prim.Native.Nat.{_-_, _≤_}
 use native.Mathlib.Omega.{arith}
 use borrow.Author.Needs.{needs}
-use Rattle.mending_tests.proofs.words_with.Statement.{statement}
-use Rattle.mending_tests.proofs.words_with.Tie as tie
+use Rattle.mending_tests.proofs.search.words_with.Statement.{statement}
+use Rattle.mending_tests.proofs.search.words_with.Tie as tie
 
 abbrev Inv-loop : tie.InvT-loop
-Inv-loop near n count₀ j₀ count j = (j ≤ 52) × (count ≤ j)
+Inv-loop n found count₀ j₀ count j = (j ≤ 104) × (count ≤ j)
 
 abbrev μ-loop : tie.MeasureT-loop
-μ-loop near n count₀ j₀ count j = 52 - j
+μ-loop n found count₀ j₀ count j = 104 - j
 
 loop-holds : tie.Need-loop-holds Inv-loop μ-loop
 loop-holds c = omega arith

@@ -1,9 +1,9 @@
--- `mending_tests::samples::ones` meets its contract: a number of 64 bits has at most 64 ones.
+-- `mending_tests::words::ones` meets its contract: a number of 64 bits has at most 64 ones.
 -- Assumes nothing.
 use lib.Count.{ones-le}
 use native.Mathlib.Omega.{arith}
-use Rattle.mending_tests.proofs.samples.ones.Statement.{statement}
-use Rattle.mending_tests.proofs.samples.ones.Tie as tie
+use Rattle.mending_tests.proofs.words.ones.Statement.{statement}
+use Rattle.mending_tests.proofs.words.ones.Tie as tie
 
 cast-result : tie.Need-cast-result
 cast-result c = omega (arith, ones-le 64 (c .args .number) (omega arith))

@@ -1,49 +1,34 @@
--- `mending_tests::hold` is safe: each index is below the number of words.
+-- `mending_tests::search::hold` is safe: each index is below the number of words.
 -- Assumes nothing.
 use Prim.Native.Nat.{_-_, _≤_}
 use native.Mathlib.Omega.{arith}
 use borrow.Author.Needs.{needs}
-use Rattle.mending_tests.proofs.hold.Statement.{statement}
-use Rattle.mending_tests.proofs.hold.Tie as tie
+use Rattle.mending_tests.proofs.search.hold.Statement.{statement}
+use Rattle.mending_tests.proofs.search.hold.Tie as tie
 
 abbrev Inv-loop : tie.InvT-loop
-Inv-loop codeword message words marks near₀ kept₀ j₀ near kept j = j ≤ 52
+Inv-loop codeword message words marks near₀ kept₀ j₀ near kept j = j ≤ 104
 
 abbrev μ-loop : tie.MeasureT-loop
-μ-loop codeword message words marks near₀ kept₀ j₀ near kept j = 52 - j
+μ-loop codeword message words marks near₀ kept₀ j₀ near kept j = 104 - j
 
 loop-holds : tie.Need-loop-holds Inv-loop μ-loop
 loop-holds c = omega arith
 
-mul-wrong : tie.Need-mul-wrong Inv-loop μ-loop
-mul-wrong c = omega arith
+mul-sum : tie.Need-mul-sum Inv-loop μ-loop
+mul-sum c = omega arith
 
-element-copy-out-wrong : tie.Need-element-copy-out-wrong Inv-loop μ-loop
-element-copy-out-wrong c = omega arith
+element-copy-out-sum : tie.Need-element-copy-out-sum Inv-loop μ-loop
+element-copy-out-sum c = omega arith
 
-mul-wrong-2 : tie.Need-mul-wrong-2 Inv-loop μ-loop
-mul-wrong-2 c = omega arith
+mul-sum-2 : tie.Need-mul-sum-2 Inv-loop μ-loop
+mul-sum-2 c = omega arith
 
-element-copy-out-wrong-2 : tie.Need-element-copy-out-wrong-2 Inv-loop μ-loop
-element-copy-out-wrong-2 c = omega arith
+element-copy-out-sum-2 : tie.Need-element-copy-out-sum-2 Inv-loop μ-loop
+element-copy-out-sum-2 c = omega arith
 
-wrong-requires : tie.Need-wrong-requires Inv-loop μ-loop
-wrong-requires c κs = search needs
-
-mul-if1 : tie.Need-mul-if1 Inv-loop μ-loop
-mul-if1 c = omega arith
-
-mul-ones : tie.Need-mul-ones Inv-loop μ-loop
-mul-ones c = omega arith
-
-element-copy-out-ones : tie.Need-element-copy-out-ones Inv-loop μ-loop
-element-copy-out-ones c = omega arith
-
-ones-requires : tie.Need-ones-requires Inv-loop μ-loop
-ones-requires c κs = search needs
-
-add-if1 : tie.Need-add-if1 Inv-loop μ-loop
-add-if1 c = omega arith
+sum-requires : tie.Need-sum-requires Inv-loop μ-loop
+sum-requires c κs = search needs
 
 mul-one-more : tie.Need-mul-one-more Inv-loop μ-loop
 mul-one-more c = omega arith
@@ -85,16 +70,11 @@ hold-spec =
     Inv-loop
     μ-loop
     loop-holds
-    mul-wrong
-    element-copy-out-wrong
-    mul-wrong-2
-    element-copy-out-wrong-2
-    wrong-requires
-    mul-if1
-    mul-ones
-    element-copy-out-ones
-    ones-requires
-    add-if1
+    mul-sum
+    element-copy-out-sum
+    mul-sum-2
+    element-copy-out-sum-2
+    sum-requires
     mul-one-more
     element-copy-out-one-more
     one-more-requires

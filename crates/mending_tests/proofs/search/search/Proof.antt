@@ -1,16 +1,19 @@
--- `mending_tests::search` is safe: it ends with the last message.
+-- `mending_tests::search::search` is safe: it ends with the last message.
 -- Assumes nothing.
 use Prim.Native.Nat.{_-_}
 use native.Mathlib.Omega.{arith}
 use borrow.Author.Needs.{needs}
-use Rattle.mending_tests.proofs.search.Statement.{statement}
-use Rattle.mending_tests.proofs.search.Tie as tie
+use Rattle.mending_tests.proofs.search.search.Statement.{statement}
+use Rattle.mending_tests.proofs.search.search.Tie as tie
 
 abbrev Inv-loop : tie.InvT-loop
-Inv-loop code limit words marks near₀ kept₀ message₀ near kept message = Unit {0}
+Inv-loop code words marks near₀ kept₀ messages message₀ near kept message = Unit {0}
 
 abbrev μ-loop : tie.MeasureT-loop
-μ-loop code limit words marks near₀ kept₀ message₀ near kept message = limit - message
+μ-loop code words marks near₀ kept₀ messages message₀ near kept message = messages - message
+
+messages-requires : tie.Need-messages-requires Inv-loop μ-loop
+messages-requires c κs = search needs
 
 loop-holds : tie.Need-loop-holds Inv-loop μ-loop
 loop-holds c = tt
@@ -45,6 +48,7 @@ search-spec =
     (tie.spec
     Inv-loop
     μ-loop
+    messages-requires
     loop-holds
     encode-requires
     enum-known-codeword
