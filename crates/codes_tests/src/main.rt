@@ -8,43 +8,33 @@ fn text(bytes: &[u8]) {
     io::write_all(STDOUT_FILENO, bytes);
 }
 
-fn decimal(n: u64) {
+// A number after its name.
+fn named(name: &[u8], n: u64) {
+    text(name);
     io::print_decimal(STDOUT_FILENO, n);
 }
 
 // An answer on a line: the word in hexadecimal, or the refusal.
 fn write(code: u64, message: u64) {
-    text(b"code ");
-    decimal(code);
-    text(b" writes ");
-    decimal(message);
+    named(b"code ", code);
+    named(b" writes ", message);
     match codes::encode(code, message) {
         Encoded::Word(w) => {
             text(b": ");
             io::print_hex(STDOUT_FILENO, w, 9);
         }
-        Encoded::Refused(r) => {
-            text(b": refused ");
-            decimal(r.number());
-        }
+        Encoded::Refused(r) => named(b": refused ", r.number()),
     }
     text(b"\n");
 }
 
 fn read(code: u64, word: u64) {
-    text(b"code ");
-    decimal(code);
+    named(b"code ", code);
     text(b" reads ");
     io::print_hex(STDOUT_FILENO, word, 9);
     match codes::decode(code, word) {
-        Decoded::Message(m) => {
-            text(b": ");
-            decimal(m);
-        }
-        Decoded::Refused(r) => {
-            text(b": refused ");
-            decimal(r.number());
-        }
+        Decoded::Message(m) => named(b": ", m),
+        Decoded::Refused(r) => named(b": refused ", r.number()),
     }
     text(b"\n");
 }
@@ -82,16 +72,11 @@ fn counted(bit: bool) -> u64
 fn report(code: u64, limit: u64, stride: u64)
     requires { ⌜ (limit ≤ 4194304) × (0 < stride) × (stride ≤ 64) ⌝ }
 {
-    text(b"code ");
-    decimal(code);
-    text(b", messages below ");
-    decimal(limit);
-    text(b", each ");
-    decimal(stride);
-    text(b": back ");
-    decimal(back(code, limit, stride));
-    text(b" of ");
-    decimal((limit + stride - 1) / stride);
+    named(b"code ", code);
+    named(b", messages below ", limit);
+    named(b", each ", stride);
+    named(b": back ", back(code, limit, stride));
+    named(b" of ", (limit + stride - 1) / stride);
     text(b"\n");
 }
 

@@ -23,24 +23,22 @@ fn text(bytes: &[u8]) {
     io::write_all(STDOUT_FILENO, bytes);
 }
 
-fn decimal(n: u64) {
+// A number after its name.
+fn named(name: &[u8], n: u64) {
+    text(name);
     io::print_decimal(STDOUT_FILENO, n);
 }
 
 // An answer on a line.
 fn show(code: u64, word: u64, marks: u64) {
-    text(b"code ");
-    decimal(code);
+    named(b"code ", code);
     text(b" mends ");
     io::print_hex(STDOUT_FILENO, word, 9);
     text(b" under ");
     io::print_hex(STDOUT_FILENO, marks, 9);
     match codes::correct(code, word, marks) {
         Corrected::Near(c) => show_near(c),
-        Corrected::Refused(r) => {
-            text(b": refused ");
-            decimal(r.number());
-        }
+        Corrected::Refused(r) => named(b": refused ", r.number()),
     }
     text(b"\n");
 }
@@ -48,34 +46,27 @@ fn show(code: u64, word: u64, marks: u64) {
 fn show_near(c: Correction) {
     text(b": ");
     io::print_hex(STDOUT_FILENO, c.codeword, 9);
-    text(b", message ");
-    decimal(c.message);
-    text(b", wrong ");
-    decimal(c.wrong);
-    text(b", marks ");
-    decimal(c.marks);
+    named(b", message ", c.message);
+    named(b", wrong ", c.wrong);
+    named(b", marks ", c.marks);
 }
 
 // How many slots have each sum from 0 to 10.
 fn show_sums(code: u64, trials: [Trial; LISTS]) {
     let mut sum: u64 = 0;
     while sum <= 10 {
-        text(b" ");
-        decimal(slots_in(code, trials, sum));
+        named(b" ", slots_in(code, trials, sum));
         sum += 1;
     }
 }
 
 // How many slots are in each group, on a line.
 fn show_groups(code: u64, trials: [Trial; LISTS]) {
-    text(b"code ");
-    decimal(code);
+    named(b"code ", code);
     text(b": slots by sum 0 to 10:");
     show_sums(code, trials);
-    text(b", above 10: ");
-    decimal(slots_in(code, trials, 11));
-    text(b", blank: ");
-    decimal(slots_in(code, trials, 12));
+    named(b", above 10: ", slots_in(code, trials, 11));
+    named(b", blank: ", slots_in(code, trials, 12));
     text(b"\n");
 }
 
@@ -88,14 +79,11 @@ fn report(code: u64) {
     let trials = lists::run_all(code);
     lists::append(trials, &mut words, &mut marks);
     let found = search(code, &words, &marks);
-    text(b"code ");
-    decimal(code);
-    text(b": mended ");
-    decimal(words_with(found, 1));
-    text(b", refused ");
-    decimal(words_with(found, 0));
-    text(b", disagreements ");
-    decimal(
+    named(b"code ", code);
+    named(b": mended ", words_with(found, 1));
+    named(b", refused ", words_with(found, 0));
+    named(
+        b", disagreements ",
         compare::disagreements_of_correct(code, &words, &marks, found)
             + compare::disagreements_of_reads(code, trials, found),
     );

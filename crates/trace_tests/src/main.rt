@@ -3,11 +3,12 @@
 mod show;
 
 use show::bytes_changed;
-use show::decimal;
+use show::named;
 use show::tell_done;
 use show::tell_read;
 use show::tell_survey;
 use show::text;
+use trace::Done;
 ghost use Prim.Native.Nat.{_≤_, _<_};
 
 // Makes a trace in the first bytes of a buffer.
@@ -16,12 +17,9 @@ fn make(buffer: [u8; 64], length: usize, code: u64, slots: u64) -> [u8; 64]
 {
     let mut b = buffer;
     let answer = trace::make(&mut b[0..length], code, slots);
-    text(b"make ");
-    decimal(code);
-    text(b" ");
-    decimal(slots);
-    text(b" in ");
-    decimal(length as u64);
+    named(b"make ", code);
+    named(b" ", slots);
+    named(b" in ", length as u64);
     tell_done(answer);
     bytes_changed(&buffer, &b);
     b
@@ -32,75 +30,91 @@ fn make_large(length: usize, slots: u64)
     requires { ⌜ length ≤ 44019 ⌝ }
 {
     let mut b = [0u8; 44019];
-    text(b"make ");
-    decimal(slots);
-    text(b" slots in ");
-    decimal(length as u64);
+    named(b"make ", slots);
+    named(b" slots in ", length as u64);
     tell_done(trace::make(&mut b[0..length], 4, slots));
     text(b"\n");
+}
+
+// A call that changes a slot.
+enum Call {
+    // Slot, step, reading.
+    Put(u64, u64, u64),
+    // Slot, position.
+    Flip(u64, u64),
+    Mark(u64, u64),
+    // Slot.
+    Clear(u64),
+}
+
+fn tell_call(call: Call) {
+    match call {
+        Call::Put(slot, step, reading) => {
+            named(b"put ", slot);
+            named(b" ", step);
+            named(b" ", reading);
+        }
+        Call::Flip(slot, position) => {
+            named(b"flip ", slot);
+            named(b" ", position);
+        }
+        Call::Mark(slot, position) => {
+            named(b"mark ", slot);
+            named(b" ", position);
+        }
+        Call::Clear(slot) => named(b"clear ", slot),
+    }
+}
+
+fn run(b: &mut [u8], call: Call) -> Done {
+    match call {
+        Call::Put(slot, step, reading) => trace::put(b, slot, step, reading),
+        Call::Flip(slot, position) => trace::flip(b, slot, position),
+        Call::Mark(slot, position) => trace::mark(b, slot, position),
+        Call::Clear(slot) => trace::clear(b, slot),
+    }
+}
+
+// A call on the first bytes of a buffer.
+fn change(buffer: [u8; 64], length: usize, call: Call) -> [u8; 64]
+    requires { ⌜ length ≤ 64 ⌝ }
+{
+    let mut b = buffer;
+    let answer = run(&mut b[0..length], call);
+    tell_call(call);
+    tell_done(answer);
+    bytes_changed(&buffer, &b);
+    b
 }
 
 fn put(buffer: [u8; 64], length: usize, slot: u64, step: u64, reading: u64) -> [u8; 64]
     requires { ⌜ length ≤ 64 ⌝ }
 {
-    let mut b = buffer;
-    let answer = trace::put(&mut b[0..length], slot, step, reading);
-    text(b"put ");
-    decimal(slot);
-    text(b" ");
-    decimal(step);
-    text(b" ");
-    decimal(reading);
-    tell_done(answer);
-    bytes_changed(&buffer, &b);
-    b
+    change(buffer, length, Call::Put(slot, step, reading))
 }
 
 fn flip(buffer: [u8; 64], length: usize, slot: u64, position: u64) -> [u8; 64]
     requires { ⌜ length ≤ 64 ⌝ }
 {
-    let mut b = buffer;
-    let answer = trace::flip(&mut b[0..length], slot, position);
-    text(b"flip ");
-    decimal(slot);
-    text(b" ");
-    decimal(position);
-    tell_done(answer);
-    bytes_changed(&buffer, &b);
-    b
+    change(buffer, length, Call::Flip(slot, position))
 }
 
 fn mark(buffer: [u8; 64], length: usize, slot: u64, position: u64) -> [u8; 64]
     requires { ⌜ length ≤ 64 ⌝ }
 {
-    let mut b = buffer;
-    let answer = trace::mark(&mut b[0..length], slot, position);
-    text(b"mark ");
-    decimal(slot);
-    text(b" ");
-    decimal(position);
-    tell_done(answer);
-    bytes_changed(&buffer, &b);
-    b
+    change(buffer, length, Call::Mark(slot, position))
 }
 
 fn clear(buffer: [u8; 64], length: usize, slot: u64) -> [u8; 64]
     requires { ⌜ length ≤ 64 ⌝ }
 {
-    let mut b = buffer;
-    let answer = trace::clear(&mut b[0..length], slot);
-    text(b"clear ");
-    decimal(slot);
-    tell_done(answer);
-    bytes_changed(&buffer, &b);
-    b
+    change(buffer, length, Call::Clear(slot))
 }
 
 fn read(buffer: [u8; 64], length: usize, slot: u64)
     requires { ⌜ length ≤ 64 ⌝ }
 {
-    text(b"read ");
-    decimal(slot);
+    named(b"read ", slot);
     tell_read(trace::read(&buffer[0..length], slot));
     text(b"\n");
 }

@@ -12,13 +12,14 @@ pub fn text(bytes: &[u8]) {
     io::write_all(STDOUT_FILENO, bytes);
 }
 
-pub fn decimal(n: u64) {
+// A number after its name.
+pub fn named(name: &[u8], n: u64) {
+    text(name);
     io::print_decimal(STDOUT_FILENO, n);
 }
 
 fn tell_refusal(r: Refusal) {
-    text(b": refused ");
-    decimal(r.number());
+    named(b": refused ", r.number());
 }
 
 pub fn tell_done(answer: Done) {
@@ -29,14 +30,10 @@ pub fn tell_done(answer: Done) {
 }
 
 fn tell_values(v: Reading) {
-    text(b": step ");
-    decimal(v.step);
-    text(b", reading ");
-    decimal(v.reading);
-    text(b", wrong ");
-    decimal(v.wrong);
-    text(b", marks ");
-    decimal(v.marks);
+    named(b": step ", v.step);
+    named(b", reading ", v.reading);
+    named(b", wrong ", v.wrong);
+    named(b", marks ", v.marks);
 }
 
 pub fn tell_read(answer: ReadAnswer) {
@@ -50,29 +47,20 @@ fn tell_pressures(p: Pressures) {
     match p {
         Pressures::Absent => text(b", no pressures"),
         Pressures::Present(smallest, largest, mean) => {
-            text(b", smallest ");
-            decimal(smallest);
-            text(b", largest ");
-            decimal(largest);
-            text(b", mean ");
-            decimal(mean);
+            named(b", smallest ", smallest);
+            named(b", largest ", largest);
+            named(b", mean ", mean);
         }
     }
 }
 
 fn tell_counts(s: Survey) {
-    text(b": blank ");
-    decimal(s.blank);
-    text(b", read ");
-    decimal(s.read);
-    text(b", over ");
-    decimal(s.over);
-    text(b", lost ");
-    decimal(s.lost);
-    text(b", bad ");
-    decimal(s.bad);
-    text(b", sum ");
-    decimal(s.sum);
+    named(b": blank ", s.blank);
+    named(b", read ", s.read);
+    named(b", over ", s.over);
+    named(b", lost ", s.lost);
+    named(b", bad ", s.bad);
+    named(b", sum ", s.sum);
     let p = s.pressures;
     tell_pressures(p);
 }

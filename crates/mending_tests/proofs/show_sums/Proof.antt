@@ -15,17 +15,14 @@ abbrev μ-loop : tie.MeasureT-loop
 loop-holds : tie.Need-loop-holds Inv-loop μ-loop
 loop-holds c = tt
 
-slice-aggregate-text : tie.Need-slice-aggregate-text Inv-loop μ-loop
-slice-aggregate-text c = omega arith
-
-text-requires : tie.Need-text-requires Inv-loop μ-loop
-text-requires c κs = search needs
+slice-aggregate-named : tie.Need-slice-aggregate-named Inv-loop μ-loop
+slice-aggregate-named c = omega arith
 
 slots-in-requires : tie.Need-slots-in-requires Inv-loop μ-loop
 slots-in-requires c κs = search needs
 
-decimal-requires : tie.Need-decimal-requires Inv-loop μ-loop
-decimal-requires c κs = search needs
+named-requires : tie.Need-named-requires Inv-loop μ-loop
+named-requires c κs = search needs
 
 add-sum : tie.Need-add-sum Inv-loop μ-loop
 add-sum c = omega arith
@@ -46,10 +43,9 @@ show-sums-spec =
     Inv-loop
     μ-loop
     loop-holds
-    slice-aggregate-text
-    text-requires
+    slice-aggregate-named
     slots-in-requires
-    decimal-requires
+    named-requires
     add-sum
     loop-less
     loop-again
