@@ -10,7 +10,7 @@ use lib.ListN.{length, take, drop, length-append, length-drop, take-append-drop,
 use lib.Seq.{take-all, take-at, drop-at, drop-drop, length-take-le}
 use borrow.Rule.Slice.PartMut.{putMid, put-same}
 use Rattle.trace.specs.Trace.{onBytes}
-use Rattle.replay.specs.Numbers.{callsIn}
+use Rattle.replay.specs.Numbers.{callsIn, callsOf}
 use Rattle.replay.specs.Play.{Played, nothing, before, also, play}
 use Rattle.replay.specs.declared.runs.Turned.{Turned}
 use Rattle.replay.specs.Rows.{TurnedBy, Turning}
@@ -28,7 +28,7 @@ pub record Progress (calls b₀ answers₀ b answers : List ℕ) (ran at told : 
   pub ran-le : ran ≤ at
   pub buffer : length b ≡ length b₀
   pub room : length answers ≡ length answers₀
-  pub whole : play onBytes (callsIn (length calls) calls) (length answers₀) b₀
+  pub whole : play onBytes (callsOf calls) (length answers₀) b₀
       ≡ before ran (take told answers) (play onBytes (callsIn (length calls - at) (drop at calls)) (length answers₀ - told) b)
   pub left : drop told answers ≡ drop told answers₀
 
@@ -105,7 +105,7 @@ module _ (calls b₀ answers₀ b answers : List ℕ) (ran at told : ℕ) (p : P
       }
 
   left-finished : play onBytes (callsIn (length calls - at) (drop at calls)) (length answers₀ - told) b ≡ nothing b
-      → LeftBy (play onBytes (callsIn (length calls) calls) (length answers₀) b₀) answers₀ ran b answers
+      → LeftBy (play onBytes (callsOf calls) (length answers₀) b₀) answers₀ ran b answers
   left-finished stop =
       let long : told ≤ length answers = omega (arith, p .room, p .told-le) in
       record {
@@ -123,7 +123,7 @@ module _ (calls b₀ answers₀ b answers : List ℕ) (ran at told : ℕ) (p : P
 
   pub left-stopped : (b′ out : List ℕ)
       → Turning (take (length calls - at) (drop at calls)) b (take (length answers - told) (drop told answers)) b′ out Turned.Stop
-      → LeftBy (play onBytes (callsIn (length calls) calls) (length answers₀) b₀) answers₀ ran b′
+      → LeftBy (play onBytes (callsOf calls) (length answers₀) b₀) answers₀ ran b′
       (putMid told (length answers - told) answers out)
   left-stopped b′ out t =
       let room : length (drop told answers) ≡ length answers₀ - told = rw (length-drop, p .room) in
@@ -131,6 +131,6 @@ module _ (calls b₀ answers₀ b answers : List ℕ) (ran at told : ℕ) (p : P
       (left-finished (rw (rest-part calls at, rest-part answers told, room) at (t .0 (length calls - at))))
 
   -- nothing is left
-  pub left-ended : length calls ≤ at → LeftBy (play onBytes (callsIn (length calls) calls) (length answers₀) b₀) answers₀ ran b answers
+  pub left-ended : length calls ≤ at → LeftBy (play onBytes (callsOf calls) (length answers₀) b₀) answers₀ ran b answers
   unfolding callsIn play
   left-ended le = let none : length calls - at ≡ 0 = omega arith in left-finished (rw none)
