@@ -12,7 +12,7 @@ pub enum Lent {
     Nothing,
 }
 
-// The bytes of `buffer `.
+// How many bytes `buffer ` has.
 const NAME: usize = 7;
 
 // A number of bytes has at most this many digits.
