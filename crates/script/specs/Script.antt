@@ -4,7 +4,7 @@ use mathlib.Core.Bool.{Bool, true, false, cond, _&&_}
 use mathlib.Core.List.{List, [], _∷_}
 use Prim.Native.Nat.{ℕ, _+_, _-_, _*_, _^_}
 use lib.Dec.{leb, ltb, eqb}
-use Rattle.lines.specs.Text.{text}
+pub use Rattle.lines.specs.Text.{text}
 use Rattle.script.specs.declared.words.Number.{Number}
 use Rattle.script.specs.declared.line.Numbers.{Numbers}
 use Rattle.script.specs.declared.line.Command.{Command}
