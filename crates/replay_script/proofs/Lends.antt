@@ -83,9 +83,10 @@ unfolding lendIn
 lent-all xs b out n size fits e =
     simp (e, size, zero-add, take-length, le-leb (length xs) (length b) (omega arith))
 
-pub lent-none : (xs b : List ℕ) → length b < length xs → lending Lent.Nothing b ≡ lendIn (some xs) b
+-- bytes that do not fit
+pub lent-too-long : (xs b : List ℕ) → length b < length xs → lending Lent.Nothing b ≡ lendIn (some xs) b
 unfolding lendIn
-lent-none xs b h = simp (lt-leb (length xs) (length b) h)
+lent-too-long xs b h = simp (lt-leb (length xs) (length b) h)
 
 pub lent-nothing : (o : Option (List ℕ)) (b : List ℕ) → none ≡ o → lending Lent.Nothing b ≡ lendIn o b
 unfolding lendIn

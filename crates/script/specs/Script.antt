@@ -4,10 +4,11 @@ use mathlib.Core.Bool.{Bool, true, false, cond, _&&_}
 use mathlib.Core.List.{List, [], _∷_}
 use Prim.Native.Nat.{ℕ, _+_, _-_, _*_, _^_}
 use lib.Dec.{leb, ltb, eqb}
-pub use Rattle.lines.specs.Text.{text}
 use Rattle.script.specs.declared.words.Number.{Number}
 use Rattle.script.specs.declared.line.Numbers.{Numbers}
 use Rattle.script.specs.declared.line.Command.{Command}
+-- quoted texts, for definitions above this crate too
+pub use Rattle.lines.specs.Text.{text}
 
 -- ---- words
 

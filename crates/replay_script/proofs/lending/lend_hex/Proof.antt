@@ -7,7 +7,7 @@ use lib.ListN.{length, getD, length-set}
 use lib.Seq.{paste, paste-zero}
 use borrow.Author.Needs.{needs}
 use Rattle.replay_script.specs.Lending.{hexBytes}
-use Rattle.replay_script.proofs.Lends.{length-hex-bytes, hex-byte-at, lent-next, lent-all, lent-none}
+use Rattle.replay_script.proofs.Lends.{length-hex-bytes, hex-byte-at, lent-next, lent-all, lent-too-long}
 use Rattle.replay_script.proofs.lending.lend_hex.Statement.{statement}
 use Rattle.replay_script.proofs.lending.lend_hex.Tie as tie
 
@@ -20,7 +20,7 @@ abbrev μ-loop : tie.MeasureT-loop
 returns : tie.Need-returns Inv-loop μ-loop
 returns c =
     let a = c .before .before .before .args in
-    (lent-none (hexBytes (a .word .now)) (a .buffer .now) (omega (arith, length-hex-bytes (a .word .now))), tt)
+    (lent-too-long (hexBytes (a .word .now)) (a .buffer .now) (omega (arith, length-hex-bytes (a .word .now))), tt)
 
 loop-holds : tie.Need-loop-holds Inv-loop μ-loop
 loop-holds c =

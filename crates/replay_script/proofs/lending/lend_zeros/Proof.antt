@@ -7,7 +7,7 @@ use lib.ListN.{length, length-set}
 use lib.Seq.{paste, paste-zero}
 use borrow.Author.Needs.{needs}
 use Rattle.replay_script.specs.Lending.{zeros}
-use Rattle.replay_script.proofs.Lends.{length-zeros, zero-at, lent-next, lent-all, lent-none}
+use Rattle.replay_script.proofs.Lends.{length-zeros, zero-at, lent-next, lent-all, lent-too-long}
 use Rattle.replay_script.proofs.lending.lend_zeros.Statement.{statement}
 use Rattle.replay_script.proofs.lending.lend_zeros.Tie as tie
 
@@ -20,7 +20,7 @@ abbrev μ-loop : tie.MeasureT-loop
 returns : tie.Need-returns Inv-loop μ-loop
 returns c =
     let a = c .before .args in
-    (lent-none (zeros (a .n)) (a .buffer .now) (omega (arith, length-zeros (a .n))), tt)
+    (lent-too-long (zeros (a .n)) (a .buffer .now) (omega (arith, length-zeros (a .n))), tt)
 
 loop-holds : tie.Need-loop-holds Inv-loop μ-loop
 loop-holds c = (omega arith, refl, paste-zero (c .before .args .buffer .now) 0 (zeros (c .before .args .n)))
