@@ -1,4 +1,5 @@
--- A survey that is accepted counts each of at most 4,000 slots once.
+-- A survey that is accepted counts each of at most 4,000 slots once: its five counts are those of the trace's claim of an honest survey,
+-- which add up to the number of slots, and a fit trailer's is at most 4,000.
 -- Assumes nothing.
 use mathlib.Core.Path.{_≡_}
 use mathlib.Core.List.{List, _∷_}

@@ -18,7 +18,8 @@ digits-enough (suc j) zero n hj hk = absurd (omega arith)
 digits-enough (suc j) (suc k) n hj hk = go (ltb n 10) refl (λ h. digits-enough j k (n / 10) (omega arith) (omega arith))
   where
     go : (small : Bool) → ltb n 10 ≡ small → (10 ≤ n → digits j (n / 10) ≡ digits k (n / 10))
-        → cond small (digit n ∷ []) (digits j (n / 10) ++ (digit (n % 10) ∷ [])) ≡ cond small (digit n ∷ []) (digits k (n / 10) ++ (digit (n % 10) ∷ []))
+        → cond small (digit n ∷ []) (digits j (n / 10) ++ (digit (n % 10) ∷ []))
+        ≡ cond small (digit n ∷ []) (digits k (n / 10) ++ (digit (n % 10) ∷ []))
     go true e same = refl
     go false e same = ap (λ (l : List ℕ). l ++ (digit (n % 10) ∷ [])) (same (ltb-false n 10 e))
 

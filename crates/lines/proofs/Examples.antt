@@ -1,4 +1,4 @@
--- Document 01's listing, computed.
+-- Document 01's listing, computed from its reads' and its survey's answers: the statuses by the trace's laws, the text by the definitions.
 -- Assumes nothing.
 use lib.Dec.{lit<, lit≤}
 use Rattle.trace.proofs.Laws.{status-read, status-over, status-blank, status-lost}

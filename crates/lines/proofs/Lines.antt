@@ -1,4 +1,5 @@
--- The text of a listing, as the code puts it together: numbers one after the other, the ending of each status, and each way that a listing goes.
+-- The text of a listing, as the code puts it together: numbers one after the other, the endings of read and over, and each way that a
+-- listing goes: too long a file, a refused one, a listed one. Each law follows one path through the definition's tests.
 -- Assumes nothing.
 use mathlib.Core.Path.{_≡_, ap, _∙_}
 use mathlib.Core.List.{List, [], _∷_, _++_, append-assoc, append-nil}

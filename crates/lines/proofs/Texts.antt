@@ -1,4 +1,5 @@
--- Texts written one after the other: nothing, a byte more, a text after a text.
+-- Texts written one after the other: nothing, a text after a text, a byte more. What is written second begins where the first ended, so
+-- the bytes before it hold the first, and those behind it stayed twice.
 -- Assumes nothing.
 use mathlib.Core.Path.{_≡_, refl, sym, ap, _∙_}
 use mathlib.Core.List.{List, [], _∷_, _++_, append-assoc, append-nil}
@@ -23,8 +24,14 @@ written-then {b} {c} {d} {s} {t} {at} {mid} {end} p q =
       rest = q .rest ∙ rw (q .ends) (drop-later b c mid (length t) (p .rest));
     }
 
-pub written-byte : {b c s : List ℕ} {at end : ℕ} (v : ℕ) → Written b at s c end → end < length c → Written b at (s ++ (v ∷ [])) (set c end v) (end + 1)
-written-byte {b} {c} {s} {at} {end} v p h = written-then p record { ends = refl; holds = rw add-one (take-suc-set c end v h); rest = drop-set-lt (end + 1) c end v (omega arith) }
+pub written-byte : {b c s : List ℕ} {at end : ℕ} (v : ℕ) → Written b at s c end → end < length c
+    → Written b at (s ++ (v ∷ [])) (set c end v) (end + 1)
+written-byte {b} {c} {s} {at} {end} v p h =
+    written-then p record {
+      ends = refl;
+      holds = rw add-one (take-suc-set c end v h);
+      rest = drop-set-lt (end + 1) c end v (omega arith);
+    }
 
 -- the same text, said otherwise
 pub written-as : {b c s t : List ℕ} {at end : ℕ} → s ≡ t → Written b at s c end → Written b at t c end

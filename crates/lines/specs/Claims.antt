@@ -10,5 +10,8 @@ use Rattle.lines.specs.Listing.{slotLine, totalLine}
 abbrev pub Example : Type 0
 Example =
     slotLine 0 (accepted (74 ∷ 2385 ∷ 2 ∷ 0 ∷ []))
-    ++ (slotLine 1 (refused 11) ++ (slotLine 2 (refused 5) ++ (slotLine 3 (accepted (0 ∷ 4095 ∷ 0 ∷ 0 ∷ [])) ++ totalLine 4 (1 ∷ 1 ∷ 1 ∷ 1 ∷ 0 ∷ []))))
+    ++ (slotLine 1 (refused 11)
+    ++ (slotLine 2 (refused 5)
+    ++ (slotLine 3 (accepted (0 ∷ 4095 ∷ 0 ∷ 0 ∷ []))
+    ++ totalLine 4 (1 ∷ 1 ∷ 1 ∷ 1 ∷ 0 ∷ []))))
     ≡ text "0 read 74 2385 2 0\n1 blank\n2 lost\n3 over 0 0 0\ntotal 4 1 1 1 1 0\n"

@@ -13,11 +13,11 @@ use Rattle.trace.specs.Survey as status
 use Rattle.trace.specs.Trace.{onBytes}
 use Rattle.lines.specs.Text.{text, decimal, spaced}
 
--- a text, and numbers after it
+-- a text, numbers after it, and a newline
 unfoldable pub line : List ℕ → List ℕ → List ℕ
 line t numbers = t ++ (spaced numbers ++ text "\n")
 
--- 'step, reading, wrong, marks for read; step, wrong, marks for over'
+-- the values of an accepted read, but for the reading
 abbrev pub withoutReading : List ℕ → List ℕ
 withoutReading [] = []
 withoutReading (step ∷ []) = step ∷ []
@@ -27,6 +27,7 @@ abbrev pub values : Answer → List ℕ
 values (accepted vs) = vs
 values (refused n) = []
 
+-- 'A line is slot and status, then step, reading, wrong, marks for read; step, wrong, marks for over': what follows the slot
 abbrev pub statusLine : Status → List ℕ → List ℕ
 statusLine status.blank vs = line (text " blank") []
 statusLine status.read vs = line (text " read") vs
@@ -34,7 +35,7 @@ statusLine status.over vs = line (text " over") (withoutReading vs)
 statusLine status.lost vs = line (text " lost") []
 statusLine status.bad vs = line (text " bad") []
 
--- 'A line is slot and status', by what a read of the slot answers
+-- the same, by what a read of the slot answers
 unfoldable pub ending : Answer → List ℕ
 ending a = statusLine (statusOf a) (values a)
 
@@ -58,6 +59,7 @@ refusedLine number = line (text "refused") (number ∷ [])
 abbrev pub answerIn : List ℕ → ℕ → Answer
 answerIn file slot = onBytes (read slot) file .answer
 
+-- by what a survey of the file answers
 abbrev pub listed : List ℕ → Answer → List ℕ
 listed file (accepted counts) = slotLines (answerIn file) (countIn file) ++ totalLine (countIn file) counts
 listed file (refused number) = refusedLine number

@@ -14,6 +14,7 @@ abbrev pub text : String → List ℕ
 text empty = []
 text (c then cs) = code c ∷ text cs
 
+-- the character of a digit
 abbrev pub digit : ℕ → ℕ
 digit d = 48 + d
 
@@ -22,7 +23,7 @@ unfoldable pub digits : ℕ → ℕ → List ℕ
 digits zero n = []
 digits (suc most) n = cond (ltb n 10) (digit n ∷ []) (digits most (n / 10) ++ (digit (n % 10) ∷ []))
 
--- all of them: a number has no more digits than one more than itself
+-- all of them: a number n has at most n + 1 digits
 unfoldable pub decimal : ℕ → List ℕ
 decimal n = digits (suc n) n
 

@@ -40,8 +40,8 @@ fn slot_lines(file: &[u8], slots: u64, out: &mut [u8]) -> usize
     end
 }
 
-// Writes the listing of a file, and answers its length; the bytes behind it stay. That the length is the text's is said apart, so that lending
-// `&out[..r]` wants no proof.
+// Writes the listing of a file, and answers its length; the bytes behind it stay. That the length is the text's is said apart, so that
+// callers lend `&out[..r]` without a proof.
 pub fn list(file: &[u8], out: &mut [u8; TEXT]) -> usize
     ensures { λ r. ⌜ (take r (now (out .exit)) ≡ listing (now (file .entry))) × (drop r (now (out .exit)) ≡ drop r (now (out .entry))) ⌝ }
     ensures { λ r. ⌜ (r ≤ length (now (out .exit))) × (r ≡ length (take r (now (out .exit)))) ⌝ }

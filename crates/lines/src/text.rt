@@ -4,6 +4,7 @@ ghost use Prim.Native.Nat.{_+_, _*_, _≤_, _<_};
 ghost use lib.ListN.{length};
 ghost use Rattle.lines.specs.Text.{decimal, spaced, Written};
 
+// The character of a digit.
 fn digit(d: u64) -> u8
     requires { ⌜ d < 10 ⌝ }
     ensures { λ r. ⌜ r ≡ 48 + d ⌝ }
@@ -11,6 +12,7 @@ fn digit(d: u64) -> u8
     48 + d as u8
 }
 
+// A number's decimal digits.
 pub fn write_decimal(out: &mut [u8], at: usize, n: u64) -> usize
     requires { ⌜ at + length (decimal n) ≤ length (now out) ⌝ }
     ensures { λ r. ⌜ Written (now (out .entry)) at (decimal n) (now (out .exit)) r ⌝ }
@@ -24,6 +26,7 @@ pub fn write_decimal(out: &mut [u8], at: usize, n: u64) -> usize
     end + 1
 }
 
+// The bytes of a text.
 pub fn write_text(out: &mut [u8], at: usize, text: &[u8]) -> usize
     requires { ⌜ at + length (now text) ≤ length (now out) ⌝ }
     ensures { λ r. ⌜ Written (now (out .entry)) at (now (text .entry)) (now (out .exit)) r ⌝ }

@@ -11,12 +11,12 @@ fn text(bytes: &[u8]) {
 fn list(file: &[u8]) {
     let mut out = [0u8; lines::TEXT];
     let end = lines::list(file, &mut out);
-    io::write_all(STDOUT_FILENO, &out[..end]);
+    text(&out[..end]);
 }
 
 // Says where a call is refused.
-fn done(done: Done) {
-    match done {
+fn done(answer: Done) {
+    match answer {
         Done::Accepted => (),
         Done::Refused(_) => text(b"a call was refused\n"),
     }
@@ -68,6 +68,7 @@ fn statuses(code: u64, step: u64) {
     done(trace::flip(&mut file, 3, 1));
     done(trace::flip(&mut file, 3, 2));
     done(trace::flip(&mut file, 3, 3));
+    // Slot 4 has a state that is neither blank nor written.
     file[44] = 2;
     done(trace::put(&mut file, 5, 1, 7));
     done(trace::flip(&mut file, 5, 5));

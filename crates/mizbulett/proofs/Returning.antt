@@ -1,6 +1,7 @@
--- From what a call answered in Rattle to what it returns to C.
+-- From what a call answered in Rattle to what it returns to C: a refusal's number with `out` as it was, 0 with the values, or the number
+-- of what a change answered with the bytes that it left. Each follows by putting the answer that the call's contract gives.
 -- Assumes nothing.
-use mathlib.Core.Path.{_≡_, sym, ap, _∙_}
+use mathlib.Core.Path.{_≡_, ap, _∙_}
 use mathlib.Core.List.{List, [], _∷_}
 use Prim.Native.Nat.{ℕ}
 use lib.ListN.{getD}
@@ -11,20 +12,18 @@ use Rattle.trace.specs.Calls.{After, after}
 use Rattle.trace.specs.Answers.{doneAnswer, pressuresValues}
 use Rattle.mizbulett.specs.Returned.{numberOf, returned, returns, leaves, presence}
 
--- the definition's answer, where the code's is known
-pub told : {E : Type 0} (answer : E → Answer) {x y : E} {a : Answer} → x ≡ y → answer x ≡ a → answer y ≡ a
-told answer e h = sym (ap answer e) ∙ h
-
 pub returns-refused : {a : Answer} {n k : ℕ} {out : List ℕ} → n ≡ k → refused k ≡ a → returned n out ≡ returns a out
 returns-refused {a} {n} {k} {out} e h = ap (λ (m : ℕ). returned m out) e ∙ ap (λ (b : Answer). returns b out) h
 
 pub returns-values : {a : Answer} {values : List ℕ} (out : List ℕ) → accepted values ≡ a → returned 0 values ≡ returns a out
 returns-values out h = ap (λ (b : Answer). returns b out) h
 
-pub leaves-done : (d : Done) {n : ℕ} {b : List ℕ} {a : After (List ℕ)} → n ≡ numberOf (doneAnswer d) → after (doneAnswer d) b ≡ a → returned n b ≡ leaves a
+pub leaves-done : (d : Done) {n : ℕ} {b : List ℕ} {a : After (List ℕ)} → n ≡ numberOf (doneAnswer d) → after (doneAnswer d) b ≡ a
+    → returned n b ≡ leaves a
 leaves-done d {n} {b} {a} e h = ap (λ (m : ℕ). returned m b) e ∙ ap leaves h
 
--- four values, read one by one
-pub presence-four : (p : Pressures) (f : List ℕ) → f ≡ presence (pressuresValues p) → getD f 0 0 ∷ getD f 1 0 ∷ getD f 2 0 ∷ getD f 3 0 ∷ [] ≡ presence (pressuresValues p)
+-- the four values of pressures, read one by one
+pub presence-four : (p : Pressures) (f : List ℕ) → f ≡ presence (pressuresValues p)
+    → getD f 0 0 ∷ getD f 1 0 ∷ getD f 2 0 ∷ getD f 3 0 ∷ [] ≡ presence (pressuresValues p)
 presence-four Pressures.Absent f e = rw e
 presence-four (Pressures.Present smallest largest mean) f e = rw e

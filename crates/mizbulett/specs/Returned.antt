@@ -1,4 +1,4 @@
--- What a C caller has after a call: the number that is returned, and what `out` or the buffer then holds.
+-- What a C caller has after a call: the number that is returned, and what `out` or the buffer holds then.
 -- Assumes nothing.
 use mathlib.Core.List.{List, [], _∷_, _++_}
 use Prim.Native.Nat.{ℕ}
@@ -32,6 +32,7 @@ abbrev pub presence : List ℕ → List ℕ
 presence [] = 0 ∷ 0 ∷ 0 ∷ 0 ∷ []
 presence (smallest ∷ more) = 1 ∷ smallest ∷ more
 
+-- what a survey answers, in ten values
 abbrev pub inTen : Answer → Answer
 inTen (accepted values) = accepted (take 6 values ++ presence (drop 6 values))
 inTen (refused n) = refused n

@@ -9,6 +9,7 @@ ghost use Rattle.trace.specs.Trace.{onBytes, make};
 ghost use Rattle.trace.specs.Answers.{doneAnswer, pressuresValues};
 ghost use Rattle.mizbulett.specs.Returned.{numberOf, returned, returns, leaves, presence, inTen};
 
+// 0 where a call is accepted, else the refusal's number.
 fn number(done: Done) -> u64
     ensures { λ r. ⌜ r ≡ numberOf (doneAnswer done) ⌝ }
 {

@@ -1,5 +1,5 @@
--- A replay taken call by call is the run of the calls that have room. How many have room follows from their answers alone; so on a freshly
--- made buffer, where the answers are the plain trace's by demand 3, as many run as on the plain trace, and they leave what they leave there.
+-- A replay taken call by call is the run of the calls that have room. How many have room follows from their answers alone; so on a
+-- freshly made buffer, where the answers are the plain trace's by demand 3, as many run as on the plain trace, and they leave its bytes.
 -- Assumes nothing.
 use Prim.Native.Nat.{ℕ, _+_, _-_}
 use mathlib.Core.Path.{_≡_, sym, _∙_}
@@ -19,22 +19,23 @@ use Rattle.replay.specs.Numbers.{callsOf, answerNumbers}
 use Rattle.replay.specs.Replay.{fitting, answersNumbers, Left, Replayed}
 use Rattle.replay.specs.Play.{Played, nothing, also, play}
 
--- what the calls that have room leave, taken at once
-abbrev atOnce : {S : Type 0} → (Call → S → After S) → List Call → ℕ → S → ℕ → Played S
-atOnce step cs room s n = record { ran = n; answers = answersNumbers (run step (take n cs) s .answers); state = run step (take n cs) s .state }
+-- what the first n calls leave, taken at once
+abbrev atOnce : {S : Type 0} → (Call → S → After S) → List Call → S → ℕ → Played S
+atOnce step cs s n =
+    record { ran = n; answers = answersNumbers (run step (take n cs) s .answers); state = run step (take n cs) s .state }
 
-play-run : {S : Type 0} (step : Call → S → After S) (cs : List Call) (room : ℕ) (s : S) → play step cs room s ≡ atOnce step cs room s (fitting step cs room s)
+play-run : {S : Type 0} (step : Call → S → After S) (cs : List Call) (room : ℕ) (s : S)
+    → play step cs room s ≡ atOnce step cs s (fitting step cs room s)
 unfolding play fitting answersNumbers
 play-run step [] room s = rw (run-none step s)
-play-run step (c ∷ cs) room s =
-    go (leb (length (answerNumbers (step c s .answer))) room) (play-run step cs (room - length (answerNumbers (step c s .answer))) (step c s .state))
+play-run {S} step (c ∷ cs) room s =
+    let size = length (answerNumbers (step c s .answer)) in
+    go (leb size room) _ _ (play-run step cs (room - size) (step c s .state))
   where
-    go : (t : Bool) → play step cs (room - length (answerNumbers (step c s .answer))) (step c s .state)
-        ≡ atOnce step cs room (step c s .state) (fitting step cs (room - length (answerNumbers (step c s .answer))) (step c s .state))
-        → cond t (also (answerNumbers (step c s .answer)) (play step cs (room - length (answerNumbers (step c s .answer))) (step c s .state))) (nothing s)
-        ≡ atOnce step (c ∷ cs) room s (cond t (fitting step cs (room - length (answerNumbers (step c s .answer))) (step c s .state) + 1) 0)
-    go true e = rw (e, add-one, run-more step s c)
-    go false e = rw (run-none step s)
+    go : (t : Bool) (rest : Played S) (n : ℕ) → rest ≡ atOnce step cs (step c s .state) n
+        → cond t (also (answerNumbers (step c s .answer)) rest) (nothing s) ≡ atOnce step (c ∷ cs) s (cond t (n + 1) 0)
+    go true rest n e = rw (e, add-one, run-more step s c)
+    go false rest n e = rw (run-none step s)
 
 -- ---- on a freshly made buffer
 
@@ -69,21 +70,21 @@ module _ (found : List ℕ) (code n : ℕ) (fit : MakeFit found code n) (cs : Li
 
 -- ---- the contract
 
--- what a replay left, by its play
-pub record Played-left (p : Played (List ℕ)) (answers : List ℕ) (ran : ℕ) (b′ answers′ : List ℕ) : Type 0 where
+-- what a replay left, by its play: the answers' numbers begin the slice that was lent for them
+pub record LeftBy (p : Played (List ℕ)) (answers : List ℕ) (ran : ℕ) (b′ answers′ : List ℕ) : Type 0 where
   pub calls : ran ≡ p .ran
   pub buffer : b′ ≡ p .state
   pub told : answers′ ≡ p .answers ++ drop (length (p .answers)) answers
 
 left-any : (b calls answers : List ℕ) (ran : ℕ) (b′ answers′ : List ℕ)
-    → Played-left (play onBytes (callsOf calls) (length answers) b) answers ran b′ answers′
+    → LeftBy (play onBytes (callsOf calls) (length answers) b) answers ran b′ answers′
     → Left (λ l. l) onBytes (callsOf calls) b answers ran b′ answers′
 left-any b calls answers ran b′ answers′ h =
     let k = rw (play-run onBytes (callsOf calls) (length answers) b) at h in
     record { calls = k .calls; buffer = k .buffer; told = k .told }
 
 pub replayed : (b calls answers : List ℕ) (ran : ℕ) (b′ answers′ : List ℕ)
-    → Played-left (play onBytes (callsOf calls) (length answers) b) answers ran b′ answers′ → Replayed b calls answers ran b′ answers′
+    → LeftBy (play onBytes (callsOf calls) (length answers) b) answers ran b′ answers′ → Replayed b calls answers ran b′ answers′
 replayed b calls answers ran b′ answers′ h =
     let any = left-any b calls answers ran b′ answers′ h in
     record {

@@ -1,5 +1,6 @@
--- One turn of a replay: what a list of numbers begins with, and how its play begins. A list that begins with no call has no calls; one that
--- begins with a call has that call and the calls of what follows it. How many calls are asked for doesn't matter, if there are enough.
+-- One turn of a replay: what a list of numbers begins with, and how its play begins. A list that begins with no call has no calls; one
+-- that begins with a call has that call and the calls of what follows it. At most as many calls as numbers are in a list, so any greater
+-- bound on their number gives the same calls.
 -- Assumes nothing.
 use Prim.Native.Nat.{ℕ, zero, suc, _+_, _-_, _<_, _≤_}
 use mathlib.Core.Path.{_≡_, refl}
@@ -34,19 +35,20 @@ unfolding callsIn
 first-call n xs o k h = rw (h .whole, h .named, h .size)
 
 module _ (xs b out : List ℕ) where
-  pub stops-uncalled : isCall xs ≡ false → (n : ℕ) → play onBytes (callsIn n xs) (length out) b ≡ nothing b
+  pub play-no-call : isCall xs ≡ false → (n : ℕ) → play onBytes (callsIn n xs) (length out) b ≡ nothing b
   unfolding play
-  stops-uncalled e n = rw (no-calls n xs e)
+  play-no-call e n = rw (no-calls n xs e)
 
-  pub stops-roomless : (o : Order) (k : ℕ) → OrderedBy xs o k → length out < length (answerNumbers (onBytes (orderCall o) b .answer))
+  pub play-no-room : (o : Order) (k : ℕ) → OrderedBy xs o k → length out < length (answerNumbers (onBytes (orderCall o) b .answer))
       → (n : ℕ) → play onBytes (callsIn n xs) (length out) b ≡ nothing b
   unfolding play callsIn
-  stops-roomless o k h lt zero = refl
-  stops-roomless o k h lt (suc n) = rw (first-call n xs o k h, lt-leb _ _ lt)
+  play-no-room o k h lt zero = refl
+  play-no-room o k h lt (suc n) = rw (first-call n xs o k h, lt-leb _ _ lt)
 
-  pub turns : (o : Order) (k count : ℕ) (b′ out′ : List ℕ) → OrderedBy xs o k → RanAs (orderCall o) b out count b′ out′ → TurnedBy xs b out k count b′ out′
+  pub turned-by : (o : Order) (k count : ℕ) (b′ out′ : List ℕ) → OrderedBy xs o k → RanAs (orderCall o) b out count b′ out′
+      → TurnedBy xs b out k count b′ out′
   unfolding play
-  turns o k count b′ out′ h r =
+  turned-by o k count b′ out′ h r =
       record {
         numbers = answerNumbers (onBytes (orderCall o) b .answer);
         told = r .answer;
@@ -55,13 +57,13 @@ module _ (xs b out : List ℕ) where
         some = omega (arith, h .size);
       }
 
--- enough is as good as more
-pub enough : (m n : ℕ) (xs : List ℕ) → length xs ≤ m → length xs ≤ n → callsIn m xs ≡ callsIn n xs
+-- any two bounds that are at least the length give the same calls
+pub calls-enough : (m n : ℕ) (xs : List ℕ) → length xs ≤ m → length xs ≤ n → callsIn m xs ≡ callsIn n xs
 unfolding callsIn isCall
-enough zero zero xs hm hn = refl
-enough zero (suc n) xs hm hn = rw (lt-leb 2 (length xs) (omega arith))
-enough (suc m) zero xs hm hn = rw (lt-leb 2 (length xs) (omega arith))
-enough (suc m) (suc n) xs hm hn =
+calls-enough zero zero xs hm hn = refl
+calls-enough zero (suc n) xs hm hn = rw (lt-leb 2 (length xs) (omega arith))
+calls-enough (suc m) zero xs hm hn = rw (lt-leb 2 (length xs) (omega arith))
+calls-enough (suc m) (suc n) xs hm hn =
     let rest : callsIn m (drop (2 + getD xs 1 0) xs) ≡ callsIn n (drop (2 + getD xs 1 0) xs) =
-    enough m n (drop (2 + getD xs 1 0) xs) (rw length-drop (omega arith)) (rw length-drop (omega arith)) in
+    calls-enough m n (drop (2 + getD xs 1 0) xs) (rw length-drop (omega arith)) (rw length-drop (omega arith)) in
     rw rest

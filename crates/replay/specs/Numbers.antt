@@ -1,5 +1,5 @@
--- Calls and answers as numbers. A call is its kind, the count of numbers that follow, and the numbers; an answer is the refusal's number or 0,
--- the count of values, and the values.
+-- Calls and answers as numbers. A call is its kind, the count of numbers that follow, and the numbers; an answer is the refusal's
+-- number or 0, the count of values, and the values.
 -- Assumes nothing.
 use mathlib.Core.Bool.{Bool, cond, _&&_}
 use mathlib.Core.List.{List, [], _∷_}
@@ -13,7 +13,7 @@ use Rattle.trace.specs.Calls.{Call, put, flip, mark, clear, read, survey}
 abbrev pub kinds : List ℕ
 kinds = 3 ∷ 2 ∷ 2 ∷ 1 ∷ 1 ∷ 0 ∷ []
 
--- the call of a kind with its numbers, of which a call may have fewer
+-- the call of a kind, which takes as many of the numbers x, y and z as it has
 unfoldable pub callWith : ℕ → ℕ → ℕ → ℕ → Call
 callWith kind x y z =
     cond (eqb kind 0) (put x y z)
@@ -22,7 +22,7 @@ callWith kind x y z =
     (cond (eqb kind 3) (clear x)
     (cond (eqb kind 4) (read x) survey))))
 
--- a list of numbers begins with a call: no 'unknown kind, wrong count, cut-off end'
+-- a list of numbers begins with a call: its kind is known, its count is that of the kind, and all its numbers are there
 unfoldable pub isCall : List ℕ → Bool
 isCall xs =
     leb 2 (length xs)

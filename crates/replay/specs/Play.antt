@@ -1,4 +1,4 @@
--- A replay taken call by call, as the code takes it.
+-- A replay taken call by call, as the code takes it. No claim rests on this file but by the proofs.
 -- Assumes nothing.
 use mathlib.Core.Bool.{cond}
 use mathlib.Core.List.{List, [], _∷_, _++_}
@@ -14,6 +14,7 @@ pub record Played (S : Type 0) : Type 0 where
   pub answers : List ℕ
   pub state : S
 
+-- no call ran
 abbrev pub nothing : {S : Type 0} → S → Played S
 nothing s = record { ran = 0; answers = []; state = s }
 
@@ -21,9 +22,11 @@ nothing s = record { ran = 0; answers = []; state = s }
 abbrev pub before : {S : Type 0} → ℕ → List ℕ → Played S → Played S
 before n xs p = record { ran = p .ran + n; answers = xs ++ p .answers; state = p .state }
 
+-- a call, with its answer's numbers, that ran before others
 abbrev pub also : {S : Type 0} → List ℕ → Played S → Played S
 also xs p = before 1 xs p
 
+-- the calls of a list, one after the other, while each one's answer has room
 unfoldable pub play : {S : Type 0} → (Call → S → After S) → List Call → ℕ → S → Played S
 play step [] room s = nothing s
 play step (c ∷ cs) room s =

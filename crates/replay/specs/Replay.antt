@@ -13,7 +13,7 @@ use Rattle.trace.specs.Plain.{bytes, fresh, onPlain}
 use Rattle.trace.specs.Claims.{MakeFit}
 use Rattle.replay.specs.Numbers.{callsOf, answerNumbers}
 
--- how many calls of a list run: 'lack of room for an answer stops the run there'
+-- how many calls of a list run: the first whose answer has no room, and all after it, do not
 unfoldable pub fitting : {S : Type 0} → (Call → S → After S) → List Call → ℕ → S → ℕ
 fitting step [] room s = 0
 fitting step (c ∷ cs) room s =
@@ -31,7 +31,8 @@ abbrev pub roomyRun : {S : Type 0} → (Call → S → After S) → List Call �
 roomyRun step cs room s = run step (take (fitting step cs room s) cs) s
 
 -- what a replay leaves, by a run: the answers' numbers begin the slice that was lent for them
-pub record Left {S : Type 0} (layout : S → List ℕ) (step : Call → S → After S) (cs : List Call) (s : S) (answers : List ℕ) (ran : ℕ) (b′ answers′ : List ℕ) : Type 0 where
+pub record Left {S : Type 0} (layout : S → List ℕ) (step : Call → S → After S) (cs : List Call) (s : S)
+    (answers : List ℕ) (ran : ℕ) (b′ answers′ : List ℕ) : Type 0 where
   pub calls : ran ≡ fitting step cs (length answers) s
   pub buffer : b′ ≡ layout (roomyRun step cs (length answers) s .state)
   pub told : answers′

@@ -1,4 +1,4 @@
--- What the parts of a replay tell each other: the contracts of the functions below it.
+-- What the parts of a replay tell each other: the contracts of the functions below it. No claim rests on this file but by the proofs.
 -- Assumes nothing.
 use mathlib.Core.Path.{_≡_}
 use mathlib.Core.Bool.{true, false}
@@ -20,6 +20,7 @@ use Rattle.replay.specs.Play.{nothing, also, play}
 abbrev pub rowNumbers : Row → List ℕ
 rowNumbers r = r .refusal ∷ r .count ∷ take (r .count) (r .values)
 
+-- a row that holds an answer's numbers
 pub record RowOf (a : Answer) (r : Row) : Type 0 where
   pub numbers : rowNumbers r ≡ answerNumbers a
   pub count : r .count ≤ 9
@@ -61,7 +62,8 @@ Running c b out b′ out′ Told.NoRoom = (length out < length (answerNumbers (o
 pub record TurnedBy (xs b out : List ℕ) (size count : ℕ) (b′ out′ : List ℕ) : Type 0 where
   pub numbers : List ℕ
   pub told : Fitted numbers out count out′
-  pub played : (n : ℕ) → play onBytes (callsIn (suc n) xs) (length out) b ≡ also numbers (play onBytes (callsIn n (drop size xs)) (length out - count) b′)
+  pub played : (n : ℕ) → play onBytes (callsIn (suc n) xs) (length out) b
+      ≡ also numbers (play onBytes (callsIn n (drop size xs)) (length out - count) b′)
   pub within : size ≤ length xs
   pub some : 1 ≤ size
 

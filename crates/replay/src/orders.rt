@@ -4,6 +4,7 @@ ghost use lib.ListN.{getD};
 ghost use Rattle.replay.specs.Numbers.{kinds};
 ghost use Rattle.replay.specs.Rows.{Ordered};
 
+// How many kinds of calls there are.
 const KINDS: u64 = 6;
 
 // A call: its kind and its numbers, 0 past the last.

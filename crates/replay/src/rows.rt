@@ -25,6 +25,7 @@ pub enum Told {
     NoRoom,
 }
 
+// The row of a refusal: its number, and no values.
 fn refused_row(r: Refusal) -> Row
     ensures { λ o. ⌜ RowOf (refused (refusalNumber r)) o × (o .count ≡ 0) ⌝ }
 {
@@ -35,6 +36,7 @@ fn refused_row(r: Refusal) -> Row
     }
 }
 
+// The row of a put, flip, mark or clear.
 pub fn done_row(answer: Done) -> Row
     ensures { λ o. ⌜ RowOf (doneAnswer answer) o × (o .count ≡ 0) ⌝ }
 {
@@ -48,6 +50,7 @@ pub fn done_row(answer: Done) -> Row
     }
 }
 
+// The row of a read: step, reading, wrong and marks, or its refusal.
 pub fn read_row(answer: ReadAnswer) -> Row
     ensures { λ o. ⌜ RowOf (readAnswer answer) o ⌝ }
 {
@@ -61,6 +64,7 @@ pub fn read_row(answer: ReadAnswer) -> Row
     }
 }
 
+// The row of an accepted survey: five counts and the sum, then smallest, largest and mean where they are present.
 fn counts_row(s: Survey) -> Row
     ensures { λ o. ⌜ RowOf (surveyAnswer (SurveyAnswer.Counts s)) o ⌝ }
 {
@@ -89,6 +93,7 @@ fn counts_row(s: Survey) -> Row
     }
 }
 
+// The row of a survey: its counts, or its refusal.
 pub fn survey_row(answer: SurveyAnswer) -> Row
     ensures { λ o. ⌜ RowOf (surveyAnswer answer) o ⌝ }
 {

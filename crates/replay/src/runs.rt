@@ -14,8 +14,8 @@ ghost use Rattle.trace.specs.Trace.{onBytes};
 ghost use Rattle.replay.specs.Rows.{RowOf, orderCall, Running, Turning};
 ghost use Rattle.replay.specs.Replay.{Replayed};
 
-// The kinds below this change a slot.
-const VIEWS: u64 = 4;
+// The kind of a read. The kinds below it change a slot.
+const READ: u64 = 4;
 
 // How many numbers a call took and its answer has, or that no call ran.
 pub enum Turned {
@@ -49,7 +49,7 @@ fn view(b: &[u8], o: Order) -> Row
         × (now (b .entry) ≡ onBytes (orderCall o) (now (b .entry)) .state) ⌝ }
 {
     let kind = o.kind;
-    if kind == VIEWS {
+    if kind == READ {
         return read_row(trace::read(b, o.x));
     }
     survey_row(trace::survey(b))
@@ -60,7 +60,7 @@ fn run_one(b: &mut [u8], o: Order, out: &mut [u64]) -> Told
     ensures { λ r. ⌜ Running (orderCall o) (now (b .entry)) (now (out .entry)) (now (b .exit)) (now (out .exit)) r ⌝ }
 {
     let kind = o.kind;
-    if kind < VIEWS {
+    if kind < READ {
         if out.len() < 2 {
             return Told::NoRoom;
         }

@@ -16,12 +16,14 @@ fn write_number(n: u64) {
     io::print_decimal(STDOUT_FILENO, n);
 }
 
+// The line of a refused call.
 fn write_refusal(refusal: Refusal) {
     write_text(b"refused");
     write_number(refusal.number());
     write_text(b"\n");
 }
 
+// The line of a make, put, flip, mark or clear.
 pub fn write_done(done: Done) {
     match done {
         Done::Accepted => write_text(b"ok\n"),
@@ -29,6 +31,7 @@ pub fn write_done(done: Done) {
     }
 }
 
+// The line of a read: step, reading, wrong, marks.
 pub fn write_read(answer: ReadAnswer) {
     match answer {
         ReadAnswer::Refused(r) => write_refusal(r),
@@ -43,6 +46,7 @@ pub fn write_read(answer: ReadAnswer) {
     }
 }
 
+// The end of a survey's line: smallest, largest, mean, or `-` for each.
 fn write_pressures(pressures: Pressures) {
     match pressures {
         Pressures::Absent => write_text(b" - - -\n"),
@@ -55,6 +59,7 @@ fn write_pressures(pressures: Pressures) {
     }
 }
 
+// The line of a survey: blank, read, over, lost, bad, sum, smallest, largest, mean.
 pub fn write_survey(answer: SurveyAnswer) {
     match answer {
         SurveyAnswer::Refused(r) => write_refusal(r),
@@ -72,6 +77,7 @@ pub fn write_survey(answer: SurveyAnswer) {
     }
 }
 
+// The character of a hexadecimal digit.
 fn upper(digit: u8) -> u8 {
     match digit {
         0..=9 => b'0' + digit,
@@ -85,6 +91,7 @@ fn write_byte(byte: u8) {
     write_text(&digits);
 }
 
+// The line of a buffer's bytes, in hexadecimal.
 pub fn write_bytes(b: &[u8]) {
     let mut i = 0;
     while i < b.len() {

@@ -68,6 +68,7 @@ fn play(line: &[u8], buffer: &mut [u8], size: usize) -> usize
     size
 }
 
+// Plays the lines of a script, one after the other.
 fn replay(text: &[u8]) {
     let mut buffer = [0u8; LONGEST];
     let mut size = 0;

@@ -1,4 +1,4 @@
--- Two texts are the same where the test says so.
+-- The test of two texts tells whether they are equal, so any Boolean that tells the same is that test.
 -- Assumes nothing.
 use mathlib.Core.Path.{_≡_, refl, sym, ap, ap₂, _∙_}
 use mathlib.Core.Bool.{Bool, true, false, _&&_}

@@ -1,4 +1,5 @@
--- The number of a word, one digit at a time.
+-- The number of a word, one digit at a time: each way that a byte goes on a number (below the digits, above them, too large, a digit), and
+-- how the digits that are left go on what is read. Once there is no number, no digit makes one.
 -- Assumes nothing.
 use mathlib.Core.Path.{_≡_, refl}
 use mathlib.Core.List.{List, [], _∷_}

@@ -1,4 +1,5 @@
--- A line's words, one after the other: the first ends where the first space stands.
+-- A line's words, one after the other: the first ends where the first space stands, and the others are the words behind that space. So a
+-- walk that looks for the next space, reads the word up to it, and goes on there, reads every word.
 -- Assumes nothing.
 use mathlib.Core.Path.{_≡_, refl, sym, ap, ap₂, _∙_}
 use mathlib.Core.Bool.{Bool, true, false, cond}
@@ -72,15 +73,16 @@ numbers-unreadable (w ∷ ws) = go (numberOf w) (numbers-unreadable ws)
     go Number.Nothing e = e
     go (Number.Is n) e = e
 
-pub not-a-number : (all : Numbers) → Numbers.Unreadable ≡ andOn all Number.Nothing
-not-a-number Numbers.None = refl
-not-a-number (Numbers.One a) = refl
-not-a-number (Numbers.Two a b) = refl
-not-a-number (Numbers.Three a b c) = refl
-not-a-number Numbers.Unreadable = refl
+pub and-nothing : (all : Numbers) → Numbers.Unreadable ≡ andOn all Number.Nothing
+and-nothing Numbers.None = refl
+and-nothing (Numbers.One a) = refl
+and-nothing (Numbers.Two a b) = refl
+and-nothing (Numbers.Three a b c) = refl
+and-nothing Numbers.Unreadable = refl
 
 -- ---- the whole line
 
+-- a line means its first word with the numbers behind it
 pub meaning-first : (line : List ℕ) (end : ℕ) → end ≡ length (before 32 line)
     → commandOf (take end line) (numbersOn Numbers.None (rest (drop end line))) ≡ meaning line
 unfolding meaning

@@ -10,6 +10,7 @@ ghost use Rattle.script.specs.Script.{andOn, numbersOn, rest, is, comman
 
 const SPACE: u8 = b' ';
 
+// What a line asks for; `Bytes` asks for the buffer itself.
 pub enum Command {
     // Code and slots.
     Make(u64, u64),
@@ -73,6 +74,7 @@ fn says(name: &[u8], word: &[u8]) -> bool
     same(name, word)
 }
 
+// The calls without numbers.
 fn with_none(name: &[u8]) -> Command
     ensures { λ r. ⌜ r ≡ commandOf (now (name .entry)) Numbers.None ⌝ }
 {
@@ -85,6 +87,7 @@ fn with_none(name: &[u8]) -> Command
     Command::Unreadable
 }
 
+// The calls with one number.
 fn with_one(name: &[u8], slot: u64) -> Command
     ensures { λ r. ⌜ r ≡ commandOf (now (name .entry)) (Numbers.One slot) ⌝ }
 {
@@ -97,6 +100,7 @@ fn with_one(name: &[u8], slot: u64) -> Command
     Command::Unreadable
 }
 
+// The calls with two numbers.
 fn with_two(name: &[u8], a: u64, b: u64) -> Command
     ensures { λ r. ⌜ r ≡ commandOf (now (name .entry)) (Numbers.Two a b) ⌝ }
 {
@@ -112,6 +116,7 @@ fn with_two(name: &[u8], a: u64, b: u64) -> Command
     Command::Unreadable
 }
 
+// The call with three numbers.
 fn with_three(name: &[u8], a: u64, b: u64, c: u64) -> Command
     ensures { λ r. ⌜ r ≡ commandOf (now (name .entry)) (Numbers.Three a b c) ⌝ }
 {
@@ -121,6 +126,7 @@ fn with_three(name: &[u8], a: u64, b: u64, c: u64) -> Command
     Command::Unreadable
 }
 
+// The call of this name that has as many numbers.
 fn named(name: &[u8], all: Numbers) -> Command
     ensures { λ r. ⌜ r ≡ commandOf (now (name .entry)) all ⌝ }
 {
@@ -133,7 +139,7 @@ fn named(name: &[u8], all: Numbers) -> Command
     }
 }
 
-// The call that a line is.
+// The call that a line is: a name and numbers, a space between.
 pub fn parse_line(line: &[u8]) -> Command
     ensures { λ r. ⌜ r ≡ meaning (now (line .entry)) ⌝ }
 {

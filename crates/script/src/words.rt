@@ -4,12 +4,13 @@ ghost use Prim.Native.Nat.{_+_, _≤_};
 ghost use lib.ListN.{length, drop};
 ghost use Rattle.script.specs.Script.{before, digitOn, numberOf};
 
+// The number that a word is, or that it is none.
 pub enum Number {
     Is(u64),
     Nothing,
 }
 
-// Where a byte first stands from `from` on, or the length; `from` itself where that is beyond it.
+// Where a byte first stands from `from` on, or the length where it doesn't; `from` itself where that is beyond the length.
 pub fn find(b: &[u8], from: usize, byte: u8) -> usize
     ensures { λ r. ⌜ r ≡ from + length (before byte (drop from (now (b .entry)))) ⌝ }
     ensures { λ r. ⌜ (from ≤ length (now (b .entry)) → (from ≤ r) × (r ≤ length (now (b .entry)))) ⌝ }
@@ -24,7 +25,7 @@ pub fn find(b: &[u8], from: usize, byte: u8) -> usize
     i
 }
 
-// A number with one more decimal digit, where it is one and 64 bits hold it.
+// A number with one more decimal digit, where the byte is one and 64 bits hold the number.
 fn with_digit(n: u64, byte: u8) -> Number
     ensures { λ r. ⌜ r ≡ digitOn n byte ⌝ }
 {
@@ -41,7 +42,7 @@ fn with_digit(n: u64, byte: u8) -> Number
     Number::Is(n * 10 + digit)
 }
 
-// The number that a word's decimal digits are.
+// The number whose decimal digits a word is: at least one digit, and nothing else.
 pub fn parse_number(word: &[u8]) -> Number
     ensures { λ r. ⌜ r ≡ numberOf (now (word .entry)) ⌝ }
 {

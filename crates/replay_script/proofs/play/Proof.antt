@@ -23,7 +23,7 @@ same-length : tie.Need-same-length
 same-length c = search needs
 
 returns : tie.Need-returns
-returns c = rw (c .before .before .before .n .given .1) at (c .before .before .before .before .before .before .before .lend .ensures)
+returns c = rw (c .before .before .before .n .given .1) at (c .before .before .before .before .before .before .before .lend .ensures .1)
 
 enum-told : tie.Need-enum-told
 enum-told c = search needs

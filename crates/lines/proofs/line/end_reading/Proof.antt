@@ -23,7 +23,8 @@ returns : tie.Need-returns
 returns c =
     let v = c .before .before .before .before .before .before .before .before .before .args .v in
     let w = c .before .before .write-line .ensures in
-    (written-as (ending-over (v .step) (v .reading) (v .wrong) (v .marks) (c .before .before .before .before .before .before .if1 .taken)) (w .0), omega arith)
+    let over = c .before .before .before .before .before .before .if1 .taken in
+    (written-as (ending-over (v .step) (v .reading) (v .wrong) (v .marks) over) (w .0), omega arith)
 
 slice-aggregate-write-line-3 : tie.Need-slice-aggregate-write-line-3
 slice-aggregate-write-line-3 c = search needs
@@ -41,7 +42,8 @@ returns-2 : tie.Need-returns-2
 returns-2 c =
     let v = c .before .before .before .before .before .before .before .before .before .args .v in
     let w = c .before .before .write-line2 .ensures in
-    (written-as (ending-read (v .step) (v .reading) (v .wrong) (v .marks) (c .before .before .before .before .before .before .if1 .left)) (w .0), omega arith)
+    let below = c .before .before .before .before .before .before .if1 .left in
+    (written-as (ending-read (v .step) (v .reading) (v .wrong) (v .marks) below) (w .0), omega arith)
 
 pub end-reading-spec : {M : Type 1} → statement M
 end-reading-spec =

@@ -58,7 +58,8 @@ returns-3 : tie.Need-returns-3
 unfolding line spaced ending
 returns-3 c =
     let w = c .before .before .write-text3 .ensures in
-    let other = status-bad (c .before .before .before .before .before .before .before .args .refusal) (c .before .before .before .before .before .match .keys3) in
+    let rest = c .before .before .before .before .before in
+    let other = status-bad (rest .before .before .args .refusal) (rest .match .keys3) in
     (written-as (rw other) w, omega (arith, w .ends))
 
 pub end-refusal-spec : {M : Type 1} → statement M

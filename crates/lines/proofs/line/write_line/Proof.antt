@@ -32,7 +32,9 @@ returns c =
     let t = c .before .before .before .before .before .before .write-text in
     let n = c .before .before .write-numbers in
     let a = c .before .before .before .before .before .before .before .before .before .before .before .args in (
-      written-as (append-assoc (a .text .now) (spaced (a .numbers .now)) (10 ∷ [])) (written-byte 10 (written-then (t .ensures) (n .ensures .0)) (slice-write-out c)),
+      written-as
+          (append-assoc (a .text .now) (spaced (a .numbers .now)) (10 ∷ []))
+          (written-byte 10 (written-then (t .ensures) (n .ensures .0)) (slice-write-out c)),
       omega arith,
     )
 

@@ -20,8 +20,8 @@ use borrow.Author.Needs.{needs}
 use Rattle.lines.proofs.listing.list.Statement.{statement}
 use Rattle.lines.proofs.listing.list.Tie as tie
 
-counts : (n : ℕ) (l : List ℕ) → n ≤ length l → (n ≤ length l) × (n ≡ length (take n l))
-counts n l h = (h, sym (length-take-le n l h))
+size-taken : (n : ℕ) (l : List ℕ) → n ≤ length l → (n ≤ length l) × (n ≡ length (take n l))
+size-taken n l h = (h, sym (length-take-le n l h))
 
 -- what a survey answers, where its answer is known
 answered : (b : List ℕ) (r x : SurveyAnswer) → after (surveyAnswer r) b ≡ onBytes survey b → r ≡ x → onBytes survey b .answer ≡ surveyAnswer x
@@ -48,7 +48,7 @@ returns c =
     let w = c .refused-line .ensures in
     let file = c .before .before .before .before .before .args .file .now in
     let long = w .0 .holds ∙ ap refusedLine (c .before .number .ensures) ∙ listing-long file (c .before .before .before .if1 .taken) in
-    ((long, w .0 .rest), counts _ _ (omega arith))
+    ((long, w .0 .rest), size-taken _ _ (omega arith))
 
 survey-requires : tie.Need-survey-requires
 survey-requires c κs = search needs
@@ -84,11 +84,12 @@ returns-2 c =
     let file = c .before .before .before .before .before .before .before .before .before .args .file .now in
     let v = c .before .before .before .before .before .before .survey in
     let r = c .before .before .before .before .r .given in
-    let short =
+    let short = c .before .before .before .before .before .before .before .if1 .left in
+    let refused =
     w .0 .holds
     ∙ ap refusedLine (c .before .number2 .ensures)
-    ∙ listing-refused file _ (c .before .before .before .before .before .before .before .if1 .left) (answered file (v .result) _ (v .ensures) (r .1)) in
-    ((short, w .0 .rest), counts _ _ (omega arith))
+    ∙ listing-refused file _ short (answered file (v .result) _ (v .ensures) (r .1)) in
+    ((refused, w .0 .rest), size-taken _ _ (omega arith))
 
 returns-3 : tie.Need-returns-3
 returns-3 c =
@@ -98,10 +99,9 @@ returns-3 c =
     let n = c .before .before .before .before .counted in
     let lines = c .before .before .slot-lines in
     let w = written-then (lines .ensures .0) (c .total-line .ensures .0) in
-    let all =
-    w .holds
-    ∙ all-listed file (s .0 .0) (answered file (v .result) _ (v .ensures) (s .1)) (n .result) (c .before .before .before .before .before .before .before .before .before .if1 .left) (n .ensures .0) in
-    ((all, w .rest), counts _ _ (omega (arith, c .total-line .kept .0, lines .kept .1 .1 .0, lines .ensures .1, n .ensures)))
+    let short = c .before .before .before .before .before .before .before .before .before .if1 .left in
+    let all = w .holds ∙ all-listed file (s .0 .0) (answered file (v .result) _ (v .ensures) (s .1)) (n .result) short (n .ensures .0) in
+    ((all, w .rest), size-taken _ _ (omega (arith, c .total-line .kept .0, lines .kept .1 .1 .0, lines .ensures .1, n .ensures)))
 
 pub list-spec : {M : Type 1} → statement M
 list-spec =

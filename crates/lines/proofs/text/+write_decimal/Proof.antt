@@ -18,10 +18,13 @@ use Rattle.lines.proofs.text.digit.Reads as digit-reads
 use Rattle.lines.proofs.text.+write_decimal.{statement}
 use Rattle.lines.proofs.text.+write_decimal.Tie.{close}
 
+-- a number of more than one digit is one digit longer than its tenth
+one-longer : (n : ℕ) → 10 ≤ n → length (decimal n) ≡ length (decimal (n / 10)) + 1
+one-longer n h = ap length (decimal-more n h) ∙ simp length-append
+
 -- after the digits of its tenth there is room for a number's last digit
 room : (n at end o l : ℕ) → 10 ≤ n → at + length (decimal n) ≤ o → end ≡ at + length (decimal (n / 10)) → l ≡ o → end < l
-room n at end o l h fits ends same =
-    let more : length (decimal n) ≡ length (decimal (n / 10)) + 1 = ap length (decimal-more n h) ∙ simp length-append in omega arith
+room n at end o l h fits ends same = omega (arith, one-longer n h)
 
 abbrev μ-write-decimal : Measures 1 write-decimal-kinds.ps ℕ
 μ-write-decimal κs a = a .1 .1 .0
@@ -95,8 +98,7 @@ write-decimal-write-decimal-requires : (t : ℕ) → write-decimal-lts.Need-writ
 ) (write-decimal-at t) write-decimal.Post
 write-decimal-write-decimal-requires t c κs =
     let a = c .before .before .before .args in
-    let more : length (decimal (a .n)) ≡ length (decimal (a .n / 10)) + 1 = ap length (decimal-more (a .n) (c .before .if1 .left)) ∙ simp length-append in
-    (omega arith, omega (arith, c .before .before .before .pre .1))
+    (omega arith, omega (arith, c .before .before .before .pre .1, one-longer (a .n) (c .before .if1 .left)))
 
 write-decimal-digit-requires-2 : (t : ℕ) → write-decimal-lts.Need-digit-requires-2 (
   digit-reads.Asked,
@@ -115,7 +117,8 @@ write-decimal-slice-write-out-2 : (t : ℕ) → write-decimal-lts.Need-slice-wri
 write-decimal-slice-write-out-2 t c =
     let b = c .before .before .before .write-decimal in
     let s = c .before .before .before .before .before .before .before in
-    room (s .args .n) (s .args .at) (b .result) (length (s .args .out .now)) (length (b .last .0)) (c .before .before .before .before .before .if1 .left) (s .pre .1) (b .ensures .ends) (b .kept .0)
+    let ten = c .before .before .before .before .before .if1 .left in
+    room (s .args .n) (s .args .at) (b .result) (length (s .args .out .now)) (length (b .last .0)) ten (s .pre .1) (b .ensures .ends) (b .kept .0)
 
 write-decimal-add-result-2 : (t : ℕ) → write-decimal-lts.Need-add-result-2 (
   digit-reads.Asked,
@@ -142,9 +145,10 @@ write-decimal-returns-2 : (t : ℕ) → write-decimal-lts.Need-returns-2 (
   write-decimal.Post,
 ) (write-decimal-at t) write-decimal.Post
 write-decimal-returns-2 t c =
-    let s = c .before .before .before .before .before .before .before in
+    let n = c .before .before .before .before .before .before .before .args .n in
+    let ten = c .before .before .before .before .before .if1 .left in
     written-as
-    (ap (λ (d : ℕ). decimal (s .args .n / 10) ++ (d ∷ [])) (c .digit2 .ensures) ∙ sym (decimal-more (s .args .n) (c .before .before .before .before .before .if1 .left)))
+    (ap (λ (d : ℕ). decimal (n / 10) ++ (d ∷ [])) (c .digit2 .ensures) ∙ sym (decimal-more n ten))
     (written-byte (c .digit2 .result) (c .before .before .before .write-decimal .ensures) (write-decimal-slice-write-out-2 t c))
 
 pub +write-decimal-spec : {M : Type 1} → statement M

@@ -39,8 +39,9 @@ shared-slice-read-write-decimal c = omega arith
 write-decimal-requires : tie.Need-write-decimal-requires Inv-loop μ-loop
 write-decimal-requires c κs =
     let l = c .before .before .before .loop in
-    let n = getD (c .before .before .before .before .before .before .args .numbers .now) (l .i) 0 in
-    simp length-set (omega (arith, decimal-short n (c .shared-slice-known2 .given (l .i) .fits), c .before .before .before .before .before .before .pre))
+    let start = c .before .before .before .before .before .before in
+    let short = decimal-short (getD (start .args .numbers .now) (l .i) 0) (c .shared-slice-known2 .given (l .i) .fits) in
+    simp length-set (omega (arith, start .pre))
 
 add-i : tie.Need-add-i Inv-loop μ-loop
 add-i c = omega arith

@@ -1,4 +1,4 @@
--- `mizbulett::mizbulett_make` meets its contract: the number of what `trace::make` answers, and the bytes that it leaves.
+-- `mizbulett::trace_calls::mizbulett_make` meets its contract: the number of what `trace::make` answers, and the bytes that it leaves.
 -- Assumes nothing.
 use Rattle.mizbulett.proofs.Returning.{leaves-done}
 use borrow.Author.Needs.{needs}

@@ -1,8 +1,7 @@
--- `mizbulett::mizbulett_read` meets its contract: the refusal's number, or the values.
+-- `mizbulett::trace_calls::mizbulett_read` meets its contract: the refusal's number, or the four values.
 -- Assumes nothing.
 use mathlib.Core.Path.{ap}
-use Rattle.trace.specs.Answers.{readAnswer}
-use Rattle.mizbulett.proofs.Returning.{told, returns-refused, returns-values}
+use Rattle.mizbulett.proofs.Returning.{returns-refused, returns-values}
 use borrow.Author.Needs.{needs}
 use Rattle.mizbulett.proofs.trace_calls.mizbulett_read.Statement.{statement}
 use Rattle.mizbulett.proofs.trace_calls.mizbulett_read.Tie as tie
@@ -22,11 +21,11 @@ enum-known-v c = search needs
 returns : tie.Need-returns
 returns c =
     returns-refused (c .number .ensures)
-    (told readAnswer (c .before .before .r .given .1) (ap (λ a. a .answer) (c .before .before .before .before .read .ensures)))
+    (rw (c .before .before .r .given .1) at (ap (λ a. a .answer) (c .before .before .before .before .read .ensures)))
 
 returns-2 : tie.Need-returns-2
 returns-2 c =
-    returns-values _ (told readAnswer (c .before .before .v .given .1) (ap (λ a. a .answer) (c .before .before .before .before .read .ensures)))
+    returns-values _ (rw (c .before .before .v .given .1) at (ap (λ a. a .answer) (c .before .before .before .before .read .ensures)))
 
 pub mizbulett-read-spec : {M : Type 1} → statement M
 mizbulett-read-spec =

@@ -1,4 +1,4 @@
--- `mizbulett::trace_calls::present` meets its contract.
+-- `mizbulett::trace_calls::present` meets its contract: four zeros, or a 1 and the three values.
 -- Assumes nothing.
 use borrow.Author.Needs.{needs}
 use Rattle.mizbulett.proofs.trace_calls.present.Statement.{statement}

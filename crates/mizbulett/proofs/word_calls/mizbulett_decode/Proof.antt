@@ -1,7 +1,6 @@
--- `mizbulett::mizbulett_decode` meets its contract: the refusal's number, or the values.
+-- `mizbulett::word_calls::mizbulett_decode` meets its contract: the refusal's number, or the message.
 -- Assumes nothing.
-use Rattle.codes.specs.Codes.{decodedAnswer}
-use Rattle.mizbulett.proofs.Returning.{told, returns-refused, returns-values}
+use Rattle.mizbulett.proofs.Returning.{returns-refused, returns-values}
 use borrow.Author.Needs.{needs}
 use Rattle.mizbulett.proofs.word_calls.mizbulett_decode.Statement.{statement}
 use Rattle.mizbulett.proofs.word_calls.mizbulett_decode.Tie as tie
@@ -19,12 +18,10 @@ enum-known-message : tie.Need-enum-known-message
 enum-known-message c = search needs
 
 returns : tie.Need-returns
-returns c =
-    returns-refused (c .number .ensures) (told decodedAnswer (c .before .before .r .given .1) (c .before .before .before .before .decode .ensures))
+returns c = returns-refused (c .number .ensures) (rw (c .before .before .r .given .1) at (c .before .before .before .before .decode .ensures))
 
 returns-2 : tie.Need-returns-2
-returns-2 c =
-    returns-values _ (told decodedAnswer (c .before .before .message .given .1) (c .before .before .before .before .decode .ensures))
+returns-2 c = returns-values _ (rw (c .before .before .message .given .1) at (c .before .before .before .before .decode .ensures))
 
 pub mizbulett-decode-spec : {M : Type 1} → statement M
 mizbulett-decode-spec =

@@ -1,7 +1,6 @@
--- `mizbulett::mizbulett_encode` meets its contract: the refusal's number, or the values.
+-- `mizbulett::word_calls::mizbulett_encode` meets its contract: the refusal's number, or the codeword.
 -- Assumes nothing.
-use Rattle.codes.specs.Codes.{encodedAnswer}
-use Rattle.mizbulett.proofs.Returning.{told, returns-refused, returns-values}
+use Rattle.mizbulett.proofs.Returning.{returns-refused, returns-values}
 use borrow.Author.Needs.{needs}
 use Rattle.mizbulett.proofs.word_calls.mizbulett_encode.Statement.{statement}
 use Rattle.mizbulett.proofs.word_calls.mizbulett_encode.Tie as tie
@@ -19,12 +18,10 @@ enum-known-word : tie.Need-enum-known-word
 enum-known-word c = search needs
 
 returns : tie.Need-returns
-returns c =
-    returns-refused (c .number .ensures) (told encodedAnswer (c .before .before .r .given .1) (c .before .before .before .before .encode .ensures))
+returns c = returns-refused (c .number .ensures) (rw (c .before .before .r .given .1) at (c .before .before .before .before .encode .ensures))
 
 returns-2 : tie.Need-returns-2
-returns-2 c =
-    returns-values _ (told encodedAnswer (c .before .before .word .given .1) (c .before .before .before .before .encode .ensures))
+returns-2 c = returns-values _ (rw (c .before .before .word .given .1) at (c .before .before .before .before .encode .ensures))
 
 pub mizbulett-encode-spec : {M : Type 1} → statement M
 mizbulett-encode-spec =

@@ -31,7 +31,9 @@ numbers-of-requires c κs = search needs
 returns-3 : tie.Need-returns-3
 unfolding isCall
 returns-3 c =
-    simp (le-leb _ _ (c .before .before .before .before .before .if1 .left), lt-ltb _ _ (c .before .before .if2 .left), ne-eqb _ _ (λ e. c .if3 .taken (e ∙ sym (c .before .numbers-of .ensures))))
+    let kind = c .before .before in
+    let known = lt-ltb _ _ (kind .if2 .left) in
+    simp (le-leb _ _ (kind .before .before .before .if1 .left), known, ne-eqb _ _ (λ e. c .if3 .taken (e ∙ sym (c .before .numbers-of .ensures))))
 
 sub-if4 : tie.Need-sub-if4
 sub-if4 c = search needs
@@ -39,10 +41,12 @@ sub-if4 c = search needs
 returns-4 : tie.Need-returns-4
 unfolding isCall
 returns-4 c =
-    let xs = now (c .before .before .before .before .before .before .before .before .args .xs) in
+    let kind = c .before .before .before in
+    let start = kind .before .before .before .before .before in
+    let xs = now (start .args .xs) in
     let cut : length xs < 2 + getD xs 1 0 = omega arith in
     let right-count = c .before .if3 .left ∙ c .before .before .numbers-of .ensures in
-    simp (le-leb _ _ (c .before .before .before .before .before .before .if1 .left), lt-ltb _ _ (c .before .before .before .if2 .left), eq-eqb _ _ right-count, lt-leb _ _ cut)
+    simp (le-leb _ _ (kind .before .before .before .if1 .left), lt-ltb _ _ (kind .if2 .left), eq-eqb _ _ right-count, lt-leb _ _ cut)
 
 number-requires : tie.Need-number-requires
 number-requires c κs = search needs
@@ -59,11 +63,14 @@ add-t10 c = search needs
 returns-5 : tie.Need-returns-5
 unfolding isCall
 returns-5 c =
-    let xs = now (c .before .before .before .before .before .before .before .before .before .before .before .args .xs) in
+    let count = c .before .before .before .before in
+    let kind = count .before .before in
+    let start = kind .before .before .before .before .before in
+    let xs = now (start .args .xs) in
     let within : 2 + getD xs 1 0 ≤ length xs = omega arith in
-    let right-count = c .before .before .before .before .if3 .left ∙ c .before .before .before .before .before .numbers-of .ensures in
+    let right-count = count .if3 .left ∙ count .before .numbers-of .ensures in
     record {
-      whole = simp (le-leb _ _ (c .before .before .before .before .before .before .before .before .before .if1 .left), lt-ltb _ _ (c .before .before .before .before .before .before .if2 .left), eq-eqb _ _ right-count, le-leb _ _ within);
+      whole = simp (le-leb _ _ (kind .before .before .before .if1 .left), lt-ltb _ _ (kind .if2 .left), eq-eqb _ _ right-count, le-leb _ _ within);
       named = rw (c .before .before .number .ensures, c .before .number2 .ensures, c .number3 .ensures);
       size = refl;
     }

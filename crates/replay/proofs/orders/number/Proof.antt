@@ -1,4 +1,4 @@
--- `replay::orders::number` meets its contract.
+-- `replay::orders::number` meets its contract: past the end the definition has 0 too.
 -- Assumes nothing.
 use mathlib.Core.Path.{sym}
 use denote.Ref.{now}

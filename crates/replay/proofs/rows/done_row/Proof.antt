@@ -1,4 +1,4 @@
--- `replay::rows::done_row` meets its contract.
+-- `replay::rows::done_row` meets its contract: no values, accepted or refused.
 -- Assumes nothing.
 use mathlib.Core.Path.{refl}
 use native.Mathlib.Omega.{arith}

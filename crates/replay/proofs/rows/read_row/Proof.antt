@@ -1,4 +1,4 @@
--- `replay::rows::read_row` meets its contract.
+-- `replay::rows::read_row` meets its contract: the four values, or a refusal's row.
 -- Assumes nothing.
 use mathlib.Core.Path.{refl}
 use native.Mathlib.Omega.{arith}

@@ -1,4 +1,4 @@
--- `replay::rows::survey_row` meets its contract.
+-- `replay::rows::survey_row` meets its contract: the row of its counts, or a refusal's.
 -- Assumes nothing.
 use borrow.Author.Needs.{needs}
 use Rattle.replay.proofs.rows.survey_row.Statement.{statement}

@@ -64,10 +64,10 @@ loop-again : tie.Need-loop-again Inv-loop μ-loop
 loop-again c =
     let a = c .before .before .before .before .args in
     let l = c .before .loop in
-    let start = set (set (now (a .out)) 0 (a .row .refusal)) 1 (a .row .count) in
-    let room : 2 + l .i < length (set (set (now (a .out)) 0 (a .row .refusal)) 1 (a .row .count)) = simp length-set (omega arith) in (
+    let begun = set (set (now (a .out)) 0 (a .row .refusal)) 1 (a .row .count) in
+    let room : 2 + l .i < length begun = simp length-set (omega arith) in (
       omega arith,
-      rw (l .inv .1, add-one) (paste-suc start 2 (a .row .values) (l .i) 0 room (omega arith)),
+      rw (l .inv .1, add-one) (paste-suc begun 2 (a .row .values) (l .i) 0 room (omega arith)),
       simp length-set (rw length-set at (rw length-set at (l .inv .2))),
     )
 
@@ -84,7 +84,8 @@ returns-2 c =
     let all : l .i ≡ a .row .count = omega arith in
     let taken = length-take-le (a .row .count) (a .row .values) (omega arith) in
     let size : 2 + a .row .count ≡ length (rowNumbers (a .row)) = rw taken (omega arith) in
-    let pasted : paste (set (set (now (a .out)) 0 (a .row .refusal)) 1 (a .row .count)) 2 (a .row .values) (l .i) ≡ rowNumbers (a .row) ++ drop (2 + a .row .count) (now (a .out)) =
+    let begun = set (set (now (a .out)) 0 (a .row .refusal)) 1 (a .row .count) in
+    let pasted : paste begun 2 (a .row .values) (l .i) ≡ rowNumbers (a .row) ++ drop (2 + a .row .count) (now (a .out)) =
     rw all (row-pasted (now (a .out)) (a .row .values) (a .row .refusal) (a .row .count) (a .row .count) (omega arith)) in
     record {
       fits = rw taken (omega arith);

@@ -3,7 +3,7 @@
 use mathlib.Core.Path.{_≡_}
 use native.Mathlib.Omega.{arith}
 use Rattle.replay.specs.Numbers.{callWith}
-use Rattle.replay.proofs.Told.{row-told}
+use Rattle.replay.proofs.Told.{row-after-change}
 use borrow.Author.Needs.{needs}
 use Rattle.replay.proofs.runs.change.Statement.{statement}
 use Rattle.replay.proofs.runs.change.Tie as tie
@@ -19,7 +19,9 @@ same-length c = search needs
 
 returns : tie.Need-returns
 unfolding callWith
-returns c = rw (c .before .before .before .before .before .if1 .taken) (let t = row-told _ _ _ _ (c .done-row .ensures .0) (c .before .before .before .put .ensures) in (t .0, c .done-row .ensures .1, t .1))
+returns c =
+    rw (c .before .before .before .before .before .if1 .taken)
+    (row-after-change _ _ _ _ (c .done-row .ensures) (c .before .before .before .put .ensures))
 
 flip-requires : tie.Need-flip-requires
 flip-requires c κs = search needs
@@ -32,7 +34,9 @@ same-length-2 c = search needs
 
 returns-2 : tie.Need-returns-2
 unfolding callWith
-returns-2 c = rw (c .before .before .before .before .before .if2 .taken) (let t = row-told _ _ _ _ (c .done-row2 .ensures .0) (c .before .before .before .flip .ensures) in (t .0, c .done-row2 .ensures .1, t .1))
+returns-2 c =
+    rw (c .before .before .before .before .before .if2 .taken)
+    (row-after-change _ _ _ _ (c .done-row2 .ensures) (c .before .before .before .flip .ensures))
 
 mark-requires : tie.Need-mark-requires
 mark-requires c κs = search needs
@@ -45,7 +49,9 @@ same-length-3 c = search needs
 
 returns-3 : tie.Need-returns-3
 unfolding callWith
-returns-3 c = rw (c .before .before .before .before .before .if3 .taken) (let t = row-told _ _ _ _ (c .done-row3 .ensures .0) (c .before .before .before .mark .ensures) in (t .0, c .done-row3 .ensures .1, t .1))
+returns-3 c =
+    rw (c .before .before .before .before .before .if3 .taken)
+    (row-after-change _ _ _ _ (c .done-row3 .ensures) (c .before .before .before .mark .ensures))
 
 clear-requires : tie.Need-clear-requires
 clear-requires c κs = search needs
@@ -59,8 +65,9 @@ same-length-4 c = search needs
 returns-4 : tie.Need-returns-4
 unfolding callWith
 returns-4 c =
-    let kind : c .before .before .before .before .before .before .before .before .before .args .o .kind ≡ 3 = omega arith in
-    rw kind (let t = row-told _ _ _ _ (c .done-row4 .ensures .0) (c .before .before .before .clear .ensures) in (t .0, c .done-row4 .ensures .1, t .1))
+    let start = c .before .before .before .before .before .before .before .before .before in
+    let kind : start .args .o .kind ≡ 3 = omega arith in
+    rw kind (row-after-change _ _ _ _ (c .done-row4 .ensures) (c .before .before .before .clear .ensures))
 
 pub change-spec : {M : Type 1} → statement M
 change-spec =

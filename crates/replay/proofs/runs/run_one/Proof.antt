@@ -5,7 +5,7 @@ use native.Mathlib.Omega.{arith}
 use denote.Ref.{now}
 use Rattle.trace.specs.Trace.{onBytes}
 use Rattle.replay.specs.Rows.{orderCall}
-use Rattle.replay.proofs.Told.{two-numbers, changed, viewed}
+use Rattle.replay.proofs.Told.{two-numbers, running-change, running-view}
 use borrow.Author.Needs.{needs}
 use Rattle.replay.proofs.runs.run_one.Statement.{statement}
 use Rattle.replay.proofs.runs.run_one.Tie as tie
@@ -33,7 +33,8 @@ returns-2 c =
     let ran = c .before .before .before .before .before .change in
     let told = c .before .before .tell in
     let e = ran .ensures in
-    changed (orderCall (a .o)) (now (a .b)) (now (a .out)) (ran .last .0) (told .last .0) (ran .result) (e .0) (e .2) (e .1) (c .before .before .before .before .before .before .before .before .if2 .left)
+    let room = c .before .before .before .before .before .before .before .before .if2 .left in
+    running-change (orderCall (a .o)) (now (a .b)) (now (a .out)) (ran .last .0) (told .last .0) (ran .result) (e .0) (e .2) (e .1) room
     (told .result) (told .ensures)
 
 view-requires : tie.Need-view-requires
@@ -54,7 +55,8 @@ returns-3 c =
     let seen = c .before .before .before .view in
     let told = c .before .before .tell2 in
     let e = seen .ensures in
-    viewed (orderCall (a .o)) (now (a .b)) (now (a .out)) (now (a .b)) (told .last .0) (seen .result) (e .0) (e .1) refl (told .result) (told .ensures)
+    running-view (orderCall (a .o)) (now (a .b)) (now (a .out)) (now (a .b)) (told .last .0) (seen .result) (e .0) (e .1) refl
+    (told .result) (told .ensures)
 
 pub run-one-spec : {M : Type 1} → statement M
 run-one-spec =

@@ -2,7 +2,7 @@
 -- Assumes nothing.
 use mathlib.Core.Path.{refl}
 use denote.Ref.{now}
-use Rattle.replay.proofs.Turns.{stops-uncalled, stops-roomless, turns}
+use Rattle.replay.proofs.Turns.{play-no-call, play-no-room, turned-by}
 use borrow.Author.Needs.{needs}
 use Rattle.replay.proofs.runs.turn.Statement.{statement}
 use Rattle.replay.proofs.runs.turn.Tie as tie
@@ -19,7 +19,8 @@ enum-told c = search needs
 returns : tie.Need-returns
 returns c =
     let a = c .before .before .before .before .before .before .args in
-    (stops-uncalled (now (a .calls)) (now (a .b)) (now (a .out)) (rw (c .enum-told .given .1) at (c .before .before .next-order .ensures)), refl, refl)
+    let none = rw (c .enum-told .given .1) at (c .before .before .next-order .ensures) in
+    (play-no-call (now (a .calls)) (now (a .b)) (now (a .out)) none, refl, refl)
 
 run-one-requires : tie.Need-run-one-requires
 run-one-requires c κs = search needs
@@ -38,10 +39,11 @@ same-length-2 c = search needs
 
 returns-2 : tie.Need-returns-2
 returns-2 c =
-    let a = c .before .before .before .before .before .before .before .before .before .before .before .before .before .before .before .before .args in
-    let h = rw (c .before .before .before .before .before .before .before .before .before .before .o .given .1) at (c .before .before .before .before .before .before .before .before .before .before .before .before .next-order .ensures) in
-    let r = rw (c .enum-told2 .given .1) at (c .before .before .before .before .before .before .run-one .ensures) in
-    (stops-roomless (now (a .calls)) (now (a .b)) (now (a .out)) _ _ h (r .0), r .1, r .2)
+    let next = c .before .before .before .before .before .before .before .before .before .before in
+    let a = next .before .before .before .before .before .before .args in
+    let order = rw (next .o .given .1) at (next .before .before .next-order .ensures) in
+    let ran = rw (c .enum-told2 .given .1) at (c .before .before .before .before .before .before .run-one .ensures) in
+    (play-no-room (now (a .calls)) (now (a .b)) (now (a .out)) _ _ order (ran .0), ran .1, ran .2)
 
 same-length-3 : tie.Need-same-length-3
 same-length-3 c = search needs
@@ -51,10 +53,11 @@ same-length-4 c = search needs
 
 returns-3 : tie.Need-returns-3
 returns-3 c =
-    let a = c .before .before .before .before .before .before .before .before .before .before .before .before .before .before .before .before .before .args in
-    let h = rw (c .before .before .before .before .before .before .before .before .before .before .before .o .given .1) at (c .before .before .before .before .before .before .before .before .before .before .before .before .before .next-order .ensures) in
-    let r = rw (c .before .count .given .1) at (c .before .before .before .before .before .before .before .run-one .ensures) in
-    turns (now (a .calls)) (now (a .b)) (now (a .out)) _ _ _ _ _ h r
+    let next = c .before .before .before .before .before .before .before .before .before .before .before in
+    let a = next .before .before .before .before .before .before .args in
+    let order = rw (next .o .given .1) at (next .before .before .next-order .ensures) in
+    let ran = rw (c .before .count .given .1) at (c .before .before .before .before .before .before .before .run-one .ensures) in
+    turned-by (now (a .calls)) (now (a .b)) (now (a .out)) _ _ _ _ _ order ran
 
 pub turn-spec : {M : Type 1} → statement M
 turn-spec =

@@ -1,7 +1,8 @@
 -- `replay::runs::view` meets its contract: a read, or else a survey.
 -- Assumes nothing.
 use Rattle.replay.specs.Numbers.{callWith}
-use Rattle.replay.proofs.Told.{as-survey, row-told}
+use native.Mathlib.Omega.{arith}
+use Rattle.replay.proofs.Told.{survey-call, row-after}
 use borrow.Author.Needs.{needs}
 use Rattle.replay.proofs.runs.view.Statement.{statement}
 use Rattle.replay.proofs.runs.view.Tie as tie
@@ -14,7 +15,7 @@ read-row-requires c κs = search needs
 
 returns : tie.Need-returns
 unfolding callWith
-returns c = rw (c .before .before .if1 .taken) (row-told _ _ _ _ (c .read-row .ensures) (c .before .read .ensures))
+returns c = rw (c .before .before .if1 .taken) (row-after _ _ _ _ (c .read-row .ensures) (c .before .read .ensures))
 
 survey-requires : tie.Need-survey-requires
 survey-requires c κs = search needs
@@ -25,8 +26,8 @@ survey-row-requires c κs = search needs
 returns-2 : tie.Need-returns-2
 returns-2 c =
     let o = c .before .before .before .before .args .o in
-    rw (as-survey (o .kind) (o .x) (o .y) (o .z) (c .before .before .before .before .pre) (c .before .before .if1 .left))
-    (row-told _ _ _ _ (c .survey-row .ensures) (c .before .survey .ensures))
+    rw (survey-call (o .kind) (o .x) (o .y) (o .z) (omega arith))
+    (row-after _ _ _ _ (c .survey-row .ensures) (c .before .survey .ensures))
 
 pub view-spec : {M : Type 1} → statement M
 view-spec =

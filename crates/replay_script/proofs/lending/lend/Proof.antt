@@ -1,14 +1,41 @@
--- `replay_script::lending::lend` is safe, ends, and lends no more than the buffer has.
+-- `replay_script::lending::lend` meets its contract: a short line, another name, a number, pairs of digits, or neither.
 -- Assumes nothing.
-use mathlib.Core.Path.{sym}
+use mathlib.Core.Path.{_≡_, sym, ap, _∙_}
+use mathlib.Core.List.{List}
+use mathlib.Core.Bool.{true}
+use Prim.Native.Nat.{ℕ, _-_}
 use native.Mathlib.Omega.{arith}
-use lib.Seq.{length-take-le}
+use lib.ListN.{length, take, drop, length-drop}
+use lib.Seq.{length-take-le, take-all}
+use borrow.Author.Tests.{not-true, not-false}
+use Rattle.script.specs.Script.{text, is}
+use Rattle.script.proofs.Naming.{is-same}
+use Rattle.replay_script.specs.Lending.{lendIn}
+use Rattle.replay_script.proofs.Lends.{lent-nothing, line-short, line-other, line-number, line-hex, line-unreadable}
 use borrow.Author.Needs.{needs}
 use Rattle.replay_script.proofs.lending.lend.Statement.{statement}
 use Rattle.replay_script.proofs.lending.lend.Tie as tie
 
+-- past the test of the name: the function's entry, what the test told, and the word behind the name
+abbrev Named : Type 0
+Named = tie.Else2
+
+abbrev entry : Named → tie.Start
+entry c = c .before .before .before .before .before .before .before
+
+named : (c : Named) → is (take 7 (entry c .args .line .now)) (text "buffer ") ≡ true
+named c =
+    let same = c .before .same in
+    let name = is-same (same .result) (take 7 (entry c .args .line .now)) (text "buffer ") (same .ensures .0) (same .ensures .1) in
+    sym name ∙ not-false _ (c .if2 .left)
+
+word : (line : List ℕ) → take (length line - 7) (drop 7 line) ≡ drop 7 line
+word line = take-all (length line - 7) (drop 7 line) (rw length-drop (omega arith))
+
 returns : tie.Need-returns
-returns c = search needs
+returns c =
+    let a = c .before .before .before .args in
+    (lent-nothing _ (a .buffer .now) (line-short (a .line .now) (c .if1 .taken)), tt)
 
 slice-aggregate-same : tie.Need-slice-aggregate-same
 slice-aggregate-same c = sym (length-take-le 7 (c .before .before .before .before .args .line .now) (omega arith))
@@ -20,7 +47,11 @@ same-requires : tie.Need-same-requires
 same-requires c κs = search needs
 
 returns-2 : tie.Need-returns-2
-returns-2 c = search needs
+returns-2 c =
+    let a = c .before .before .before .before .before .before .before .args in
+    let same = c .before .same in
+    let name = is-same (same .result) (take 7 (a .line .now)) (text "buffer ") (same .ensures .0) (same .ensures .1) in
+    (lent-nothing _ (a .buffer .now) (line-other (a .line .now) (sym name ∙ not-true _ (c .if2 .taken))), tt)
 
 sub-word : tie.Need-sub-word
 sub-word c = search needs
@@ -31,8 +62,8 @@ part-word-start c = search needs
 part-word-end : tie.Need-part-word-end
 part-word-end c = search needs
 
-parse-number-requires : tie.Need-parse-number-requires
-parse-number-requires c κs = search needs
+count-requires : tie.Need-count-requires
+count-requires c κs = search needs
 
 enum-known-n : tie.Need-enum-known-n
 enum-known-n c = search needs
@@ -44,7 +75,13 @@ same-length : tie.Need-same-length
 same-length c = search needs
 
 returns-3 : tie.Need-returns-3
-returns-3 c = search needs
+returns-3 c =
+    let counted = c .before .before .before .before .before .before .before in
+    let test = counted .before .before in
+    let a = entry test .args in
+    let count = sym (counted .count .ensures) ∙ c .before .before .before .before .before .n .given .1 in
+    let z = c .before .before .lend-zeros .ensures in
+    (z .0 ∙ ap (λ o. lendIn o (a .buffer .now)) (line-number (a .line .now) _ (named test) (word (a .line .now)) _ count), z .1)
 
 enum-told : tie.Need-enum-told
 enum-told c = search needs
@@ -59,10 +96,23 @@ same-length-2 : tie.Need-same-length-2
 same-length-2 c = search needs
 
 returns-4 : tie.Need-returns-4
-returns-4 c = search needs
+returns-4 c =
+    let counted = c .before .before .before .before .before .before .before .before in
+    let test = counted .before .before in
+    let a = entry test .args in
+    let count = sym (counted .count .ensures) ∙ c .before .before .before .before .before .before .enum-told .given .1 in
+    let hex = sym (c .before .before .before .before .before .is-hex .ensures) ∙ c .before .before .before .before .if3 .taken in
+    let z = c .before .before .lend-hex .ensures in
+    (z .0 ∙ ap (λ o. lendIn o (a .buffer .now)) (line-hex (a .line .now) _ (named test) (word (a .line .now)) count hex), z .1)
 
 returns-5 : tie.Need-returns-5
-returns-5 c = search needs
+returns-5 c =
+    let counted = c .before .before .before .before in
+    let test = counted .before .before in
+    let a = entry test .args in
+    let count = sym (counted .count .ensures) ∙ c .before .before .enum-told .given .1 in
+    let hex = sym (c .before .is-hex .ensures) ∙ c .if3 .left in
+    (lent-nothing _ (a .buffer .now) (line-unreadable (a .line .now) _ (named test) (word (a .line .now)) count hex), tt)
 
 pub lend-spec : {M : Type 1} → statement M
 lend-spec =
@@ -76,7 +126,7 @@ lend-spec =
     sub-word
     part-word-start
     part-word-end
-    parse-number-requires
+    count-requires
     enum-known-n
     lend-zeros-requires
     same-length

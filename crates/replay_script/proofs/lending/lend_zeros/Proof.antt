@@ -1,23 +1,29 @@
--- `replay_script::lending::lend_zeros` is safe, ends, and lends no more than the buffer has.
+-- `replay_script::lending::lend_zeros` meets its contract. At the loop's head the first i bytes are zeros, and the others as they were.
 -- Assumes nothing.
-use mathlib.Core.Path.{_≡_}
-use Prim.Native.Nat.{_-_}
-use lib.ListN.{length}
+use mathlib.Core.Path.{_≡_, refl}
+use Prim.Native.Nat.{_-_, _<_, _≤_}
+use native.Mathlib.Omega.{arith}
+use lib.ListN.{length, length-set}
+use lib.Seq.{paste, paste-zero}
 use borrow.Author.Needs.{needs}
+use Rattle.replay_script.specs.Lending.{zeros}
+use Rattle.replay_script.proofs.Lends.{length-zeros, zero-at, lent-next, lent-all, lent-too-long}
 use Rattle.replay_script.proofs.lending.lend_zeros.Statement.{statement}
 use Rattle.replay_script.proofs.lending.lend_zeros.Tie as tie
 
 abbrev Inv-loop : tie.InvT-loop
-Inv-loop n buffer₀ size i₀ buffer i = length buffer ≡ length buffer₀
+Inv-loop n buffer₀ size i₀ buffer i = (i ≤ size) × (length buffer ≡ length buffer₀) × (buffer ≡ paste buffer₀ 0 (zeros n) i)
 
 abbrev μ-loop : tie.MeasureT-loop
 μ-loop n buffer₀ size i₀ buffer i = size - i
 
 returns : tie.Need-returns Inv-loop μ-loop
-returns c = search needs
+returns c =
+    let a = c .before .args in
+    (lent-too-long (zeros (a .n)) (a .buffer .now) (omega (arith, length-zeros (a .n))), tt)
 
 loop-holds : tie.Need-loop-holds Inv-loop μ-loop
-loop-holds c = search needs
+loop-holds c = (omega arith, refl, paste-zero (c .before .args .buffer .now) 0 (zeros (c .before .args .n)))
 
 slice-write-buffer : tie.Need-slice-write-buffer Inv-loop μ-loop
 slice-write-buffer c = search needs
@@ -29,13 +35,24 @@ loop-less : tie.Need-loop-less Inv-loop μ-loop
 loop-less c = search needs
 
 loop-again : tie.Need-loop-again Inv-loop μ-loop
-loop-again c = search needs
+loop-again c =
+    let a = c .before .before .before .args in
+    let l = c .before .loop in
+    let long : l .i < length (zeros (a .n)) = omega (arith, length-zeros (a .n)) in (
+      omega arith,
+      simp length-set (l .inv .1),
+      lent-next (zeros (a .n)) (a .buffer .now) (l .buffer) (l .i) 0 (omega arith) long (zero-at (a .n) (l .i) (omega arith)) (l .inv .2),
+    )
 
 same-length : tie.Need-same-length Inv-loop μ-loop
 same-length c = search needs
 
 returns-2 : tie.Need-returns-2 Inv-loop μ-loop
-returns-2 c = search needs
+returns-2 c =
+    let a = c .before .before .before .args in
+    let l = c .before .loop in
+    let all : l .i ≡ a .n = omega arith in
+    (lent-all (zeros (a .n)) (a .buffer .now) (l .buffer) (a .n) (length-zeros (a .n)) (omega arith) (rw all at (l .inv .2)), omega arith)
 
 pub lend-zeros-spec : {M : Type 1} → statement M
 lend-zeros-spec =

@@ -7,7 +7,7 @@ use native.Mathlib.Omega.{arith}
 use lib.ListN.{length, drop, drop-of-length-le}
 use Rattle.script.specs.declared.line.Numbers.{Numbers}
 use Rattle.script.specs.Script.{andOn, numbersOn, rest}
-use Rattle.script.proofs.Splitting.{numbers-step, numbers-unreadable, not-a-number}
+use Rattle.script.proofs.Splitting.{numbers-step, numbers-unreadable, and-nothing}
 use borrow.Author.Needs.{needs}
 use Rattle.script.proofs.line.parse_numbers.Statement.{statement}
 use Rattle.script.proofs.line.parse_numbers.Tie as tie
@@ -54,9 +54,9 @@ returns c =
     let line = c .before .before .before .before .before .before .before .before .args .line .now in
     let l = c .before .before .before .before .before .before .loop in
     let end = c .before .before .before .before .find in
-    let p = c .before .before .parse-number in
+    let none = sym (c .enum-told .given .1) ∙ c .before .before .parse-number .ensures in
     numbers-unreadable (rest (drop (end .result) line))
-    ∙ ap (λ (a : Numbers). numbersOn a (rest (drop (end .result) line))) (not-a-number (l .all) ∙ ap (andOn (l .all)) (sym (c .enum-told .given .1) ∙ p .ensures))
+    ∙ ap (λ (a : Numbers). numbersOn a (rest (drop (end .result) line))) (and-nothing (l .all) ∙ ap (andOn (l .all)) none)
     ∙ sym (numbers-step line (l .at) (end .result) (l .all) (omega arith) (end .ensures .0))
     ∙ l .inv .1
 
@@ -71,9 +71,9 @@ loop-again c =
     let line = c .before .before .before .before .before .before .before .before .before .before .args .line .now in
     let l = c .before .before .before .before .before .before .before .before .loop in
     let end = c .before .before .before .before .before .before .find in
-    let p = c .before .before .before .before .parse-number in (
+    let one = sym (c .before .before .n .given .1) ∙ c .before .before .before .before .parse-number .ensures in (
       end .ensures .1 (omega arith) .1,
-      ap (λ (a : Numbers). numbersOn a (rest (drop (end .result) line))) (c .with .ensures ∙ ap (andOn (l .all)) (sym (c .before .before .n .given .1) ∙ p .ensures))
+      ap (λ (a : Numbers). numbersOn a (rest (drop (end .result) line))) (c .with .ensures ∙ ap (andOn (l .all)) one)
           ∙ sym (numbers-step line (l .at) (end .result) (l .all) (omega arith) (end .ensures .0))
           ∙ l .inv .1,
     )

@@ -1,4 +1,4 @@
--- `script::line::says` meets its contract.
+-- `script::line::says` meets its contract: `same` tells whether two texts are equal.
 -- Assumes nothing.
 use Rattle.script.proofs.Naming.{is-same}
 use borrow.Author.Needs.{needs}

@@ -23,11 +23,15 @@ says-requires-2 c κs = search needs
 
 returns-2 : tie.Need-returns-2
 unfolding commandOf
-returns-2 c = simp (← c .before .says2 .ensures, c .if2 .taken, ← c .before .before .before .before .says .ensures, c .before .before .before .if1 .left)
+returns-2 c =
+    let one = c .before .before .before in
+    simp (← c .before .says2 .ensures, c .if2 .taken, ← one .before .says .ensures, one .if1 .left)
 
 returns-3 : tie.Need-returns-3
 unfolding commandOf
-returns-3 c = simp (← c .before .says2 .ensures, c .if2 .left, ← c .before .before .before .before .says .ensures, c .before .before .before .if1 .left)
+returns-3 c =
+    let one = c .before .before .before in
+    simp (← c .before .says2 .ensures, c .if2 .left, ← one .before .says .ensures, one .if1 .left)
 
 pub with-one-spec : {M : Type 1} → statement M
 with-one-spec =

@@ -23,7 +23,9 @@ says-requires-2 c κs = search needs
 
 returns-2 : tie.Need-returns-2
 unfolding commandOf
-returns-2 c = simp (← c .before .says2 .ensures, c .if2 .taken, ← c .before .before .before .before .says .ensures, c .before .before .before .if1 .left)
+returns-2 c =
+    let one = c .before .before .before in
+    simp (← c .before .says2 .ensures, c .if2 .taken, ← one .before .says .ensures, one .if1 .left)
 
 slice-aggregate-says-3 : tie.Need-slice-aggregate-says-3
 slice-aggregate-says-3 c = search needs
@@ -33,11 +35,17 @@ says-requires-3 c κs = search needs
 
 returns-3 : tie.Need-returns-3
 unfolding commandOf
-returns-3 c = simp (← c .before .says3 .ensures, c .if3 .taken, ← c .before .before .before .before .says2 .ensures, c .before .before .before .if2 .left, ← c .before .before .before .before .before .before .before .says .ensures, c .before .before .before .before .before .before .if1 .left)
+returns-3 c =
+    let two = c .before .before .before in
+    let one = two .before .before .before in
+    simp (← c .before .says3 .ensures, c .if3 .taken, ← two .before .says2 .ensures, two .if2 .left, ← one .before .says .ensures, one .if1 .left)
 
 returns-4 : tie.Need-returns-4
 unfolding commandOf
-returns-4 c = simp (← c .before .says3 .ensures, c .if3 .left, ← c .before .before .before .before .says2 .ensures, c .before .before .before .if2 .left, ← c .before .before .before .before .before .before .before .says .ensures, c .before .before .before .before .before .before .if1 .left)
+returns-4 c =
+    let two = c .before .before .before in
+    let one = two .before .before .before in
+    simp (← c .before .says3 .ensures, c .if3 .left, ← two .before .says2 .ensures, two .if2 .left, ← one .before .says .ensures, one .if1 .left)
 
 pub with-two-spec : {M : Type 1} → statement M
 with-two-spec =
