@@ -9,13 +9,13 @@ use mathlib.Core.Logic.{inl, inr, ⊎-elim}
 use mathlib.Core.List.{List, [], _∷_}
 use Prim.Native.Nat.{ℕ, _+_, _*_, _^_, _≤_, _<_}
 use native.Mathlib.Omega.{arith}
-use borrow.Author.Tests.{lt-leb, leb-false, leb-true}
+use borrow.Author.Tests.{lt-leb, leb-false, leb-true, not-false}
 use lib.Dec.{leb, lit<}
 use Rattle.symbols.specs.Symbol.{_⊻_}
 use Rattle.symbols.specs.Column.{columnWith}
 use Rattle.codes.specs.declared.code.Code.{Code}
 use Rattle.codes.specs.declared.code.Code.the-variants.{O36, E36}
-use Rattle.codes.specs.Answer.{Answer, accepted, refused}
+use Rattle.codes.specs.Answer.{accepted, refused}
 use Rattle.codes.specs.Projection.{width}
 use Rattle.codes.specs.Word.{word, isCodeword, distance}
 use Rattle.codes.specs.Message.{encode, decode}
@@ -28,8 +28,8 @@ use Rattle.codes.proofs.Words.{length-word, same-length, codeword-parit
 use Rattle.codes.proofs.Distance.{close-same}
 use Rattle.codes.proofs.Messages.{encode-below, encode-codeword, decode-encode, decode-below, encode-decode, word-injective}
 use Rattle.codes.proofs.Codes.{systematic, apart}
-use Rattle.codes.proofs.Answers.{row-met, row-passed}
-use Rattle.codes.proofs.Rows.{not-refused, refused-by, refused-by-rows}
+use Rattle.codes.proofs.Answers.{row-passed}
+use Rattle.codes.proofs.Rows.{not-refused, accepted-row, refused-by, refused-by-rows}
 pub use Rattle.codes.proofs.Positions.{positions}
 use Rattle.codes.proofs.Mends as mends
 use Rattle.codes.proofs.Mends.{mended, mend-near, mend-none, mending-fits}
@@ -46,12 +46,8 @@ one-message c x k =
     let sys = systematic c in
     (decode-below π sys x (k .0) (k .1), encode-decode π sys x (k .0) (k .1), λ n h e. sym (decode-encode π sys n h) ∙ ap (decode π) e)
 
--- an answer is not both accepted and refused
-not-both : {a : Answer} {values : List ℕ} {k : ℕ} → a ≡ accepted values → a ≡ refused k → ⊥
-not-both e f = let z : _≡_ {A = ℕ} 0 1 = cc in omega arith
-
 pub strict-reading : StrictReading
-strict-reading c x = (accepts, λ vs e. only vs e (leb (2 ^ width (projection c)) x) (isCodeword (projection c) (word (projection c) x)) refl refl)
+strict-reading c x = (accepts, only)
   where
     accepts : IsCodeword c x → reading (projection c) x ≡ accepted (decode (projection c) x ∷ [])
     accepts k =
@@ -59,14 +55,12 @@ strict-reading c x = (accepts, λ vs e. only vs e (leb (2 ^ width (projection c)
         row-passed 3 (notACodeword π x ∷ []) (accepted (decode π x ∷ [])) (lt-leb (2 ^ width π) x (k .0))
         ∙ row-passed 4 [] (accepted (decode π x ∷ [])) (ap not (k .1))
 
-    only : (vs : List ℕ) → reading (projection c) x ≡ accepted vs → (wide is : Bool) →
-        leb (2 ^ width (projection c)) x ≡ wide → isCodeword (projection c) (word (projection c) x) ≡ is → IsCodeword c x
-    only vs e true is w f = absurd (not-both e (row-met 3 (notACodeword (projection c) x ∷ []) (accepted (decode (projection c) x ∷ [])) w))
-    only vs e false false w f =
+    only : (vs : List ℕ) → reading (projection c) x ≡ accepted vs → IsCodeword c x
+    only vs e =
         let π = projection c in
-        absurd (not-both e
-        (row-passed 3 (notACodeword π x ∷ []) (accepted (decode π x ∷ [])) w ∙ row-met 4 [] (accepted (decode π x ∷ [])) (ap not f)))
-    only vs e false true w f = (leb-false (2 ^ width (projection c)) x w, f)
+        let narrow = accepted-row (wordTooWide π x) _ vs e in
+        let codeword = accepted-row (notACodeword π x) _ vs (narrow .1) in
+        (leb-false (2 ^ width π) x (narrow .0), not-false _ (codeword .0))
 
 pub sum-of-codewords : SumOfCodewords
 sum-of-codewords c x y k l =
@@ -110,7 +104,7 @@ mends-near c w m hw hm = (gives, λ vs e. only vs (mend (projection c) w m) refl
 
     only : (vs : List ℕ) (r : Mended) → mend (projection c) w m ≡ r → mendedAnswer r ≡ accepted vs →
         (x : ℕ) × IsNear c w m x × (vs ≡ x ∷ decode (projection c) x ∷ wrong (projection c) w m x ∷ ones (projection c) m ∷ [])
-    only vs none e a = absurd (not-both a refl)
+    only vs none e a = not-refused vs 5 (sym a)
     only vs (near x n k l) e a =
         let π = projection c in
         let given = mended π w m x n k l e in
@@ -133,7 +127,7 @@ refuses-far c w m hw hm = (refuses, only)
         ∙ ap mendedAnswer (mend-none (projection c) w m (systematic c) (apart c) (λ y n. empty y (from-near c w m y n)))
 
     only : mending (projection c) w m ≡ refused 5 → (x : ℕ) → IsNear c w m x → ⊥
-    only e x n = not-both (mends-near c w m hw hm .0 x n) e
+    only e x n = not-refused _ 5 (sym (mends-near c w m hw hm .0 x n) ∙ e)
 
 -- a word from which a codeword has a sum of 8 is refused
 lost-sample : (c : Code) (w m x : ℕ) → w < 2 ^ width (projection c) → m < 2 ^ width (projection c) → IsCodeword c x →

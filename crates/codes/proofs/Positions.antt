@@ -1,7 +1,7 @@
 -- Positions of a word, counted from its highest bit, are the rows of its columns: of m columns, column c is the digit of 16^(m−c), and row r
 -- of it the digit of 2^(3−r).
 -- Assumes nothing.
-use mathlib.Core.Path.{_≡_, refl, sym, _∙_}
+use mathlib.Core.Path.{_≡_, sym, _∙_}
 use Prim.Native.Nat.{ℕ, zero, suc, _+_, _-_, _*_, _/_, _%_, _^_, _<_}
 use native.Mathlib.Nat.{mod-lt}
 use native.Mathlib.Omega.{arith}
