@@ -1,5 +1,6 @@
-pub mod Decimals
-pub mod Texts
-pub mod Lines
-pub mod Counted
+-- the claim
 pub mod Examples
+mod Decimals
+mod Texts
+mod Lines
+mod Counted

@@ -1,1 +1,1 @@
-pub mod Returning
+mod Returning

@@ -1,4 +1,4 @@
-pub mod Told
-pub mod Turns
-pub mod Plays
-pub mod Progress
+mod Told
+mod Turns
+mod Plays
+mod Progress

@@ -1,1 +1,1 @@
-pub mod Lends
+mod Lends

@@ -1,3 +1,4 @@
-pub mod Splitting
-pub mod Numerals
+-- what the layers above may cite
 pub mod Naming
+mod Splitting
+mod Numerals

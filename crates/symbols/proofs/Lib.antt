@@ -1,3 +1,4 @@
+-- what the layers above may cite: all of it
 pub mod Every
 pub mod Symbols
 pub mod Columns
