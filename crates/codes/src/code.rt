@@ -22,6 +22,7 @@ pub enum CodeFound {
 }
 
 impl Code {
+    // The numbers of the codes of 36 bits, and of those of 40.
     const COLUMNS_36: usize = 9;
 
     const COLUMNS_40: usize = 10;
@@ -38,6 +39,7 @@ impl Code {
 
     const STEP_LIMIT_40: u64 = 1024;
 
+    // Which columns are free, and how many free ones stand behind each column.
     const FREE_36: [bool; 10] = [
         false,
         false,

@@ -63,7 +63,7 @@ fn draft(code: Code, message: u64, syndrome: u8) -> [u8; 10]
 }
 
 // The columns of a message's codeword: the free values' syndrome is what the other columns must have.
-pub fn codeword(code: Code, message: u64) -> [u8; 10]
+pub(crate) fn codeword(code: Code, message: u64) -> [u8; 10]
     ensures { λ r. ⌜ held (projection code) r ≡ codewordOf (projection code) (messageOf (projection code) message) ⌝ }
 {
     let scaled = scaled_columns(code);
@@ -96,7 +96,7 @@ fn high_part(code: Code, columns: [u8; 10]) -> u64
 }
 
 // The message that a codeword's columns say.
-pub fn message_in(code: Code, columns: [u8; 10]) -> u64
+pub(crate) fn message_in(code: Code, columns: [u8; 10]) -> u64
     ensures { λ r. ⌜ r ≡ messageNumber (projection code) (messageIn (projection code) (held (projection code) columns)) ⌝ }
 {
     let mut number = high_part(code, columns);

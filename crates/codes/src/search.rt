@@ -16,7 +16,8 @@ ghost use Rattle.codes.specs.Codes.{projection};
 ghost use Rattle.codes.specs.Word.{isCodewordOf, isCodeword};
 ghost use Rattle.codes.specs.Search.{entryTable, Tables, inverted, Begun, Seeking, Within, Sought, Hopeless, Settled};
 
-pub const NONE: u64 = 0x100_0000_0000;
+// No codeword: a number above every word.
+pub(crate) const NONE: u64 = 0x100_0000_0000;
 
 // A word with bits of one column inverted.
 fn inverted(code: Code, x: u64, column: usize, bits: u8) -> u64
@@ -128,7 +129,7 @@ fn of_parity(
 }
 
 // The codeword within three positions of a word x.
-pub fn within_three(code: Code, scaled: &[u8; 40], table: &[u8; 256], x: u64) -> u64
+pub(crate) fn within_three(code: Code, scaled: &[u8; 40], table: &[u8; 256], x: u64) -> u64
     requires { ⌜ Tables (projection code) (now scaled) (now table) × (x < 2 ^ width (projection code)) ⌝ }
     ensures { λ r. ⌜ Sought (Within (projection code) (isCodeword (projection code)) 3 x) r ⌝ }
 {

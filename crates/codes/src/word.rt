@@ -16,14 +16,14 @@ ghost use Rattle.codes.specs.Walk.{held, scaledColumns, Walked};
 
 // What one walk over the columns collects: the syndrome, packed with its first row highest, the top row's parity, and
 // the number of odd columns.
-pub struct Walk {
+pub(crate) struct Walk {
     pub syndrome: u8,
     pub top: bool,
     pub odd: u8,
 }
 
 // The columns of a word; bits above the code's width are left out.
-pub fn unpack(code: Code, packed: u64) -> [u8; 10]
+pub(crate) fn unpack(code: Code, packed: u64) -> [u8; 10]
     ensures { λ r. ⌜ held (projection code) r ≡ word (projection code) packed ⌝ }
 {
     let mut columns = [0u8; 10];
@@ -38,7 +38,7 @@ pub fn unpack(code: Code, packed: u64) -> [u8; 10]
 }
 
 // The table of a code's scaled columns.
-pub fn scaled_columns(code: Code) -> [u8; 40]
+pub(crate) fn scaled_columns(code: Code) -> [u8; 40]
     ensures { λ r. ⌜ r ≡ scaledColumns (projection code) ⌝ }
 {
     match code {
@@ -48,7 +48,7 @@ pub fn scaled_columns(code: Code) -> [u8; 40]
 }
 
 // A column of the check matrix times a symbol, packed, out of the table of all of them.
-pub fn scaled_at(code: Code, scaled: &[u8; 40], column: usize, symbol: u8) -> u8
+pub(crate) fn scaled_at(code: Code, scaled: &[u8; 40], column: usize, symbol: u8) -> u8
     requires { ⌜ (now scaled ≡ scaledColumns (projection code)) × (column < size (projection code)) × (symbol < 4) ⌝ }
     ensures { λ r. ⌜ r ≡ numberOf symbols (scale (symbolOf symbol) (getD (projection code .matrix) column [])) ⌝ }
 {
@@ -56,7 +56,7 @@ pub fn scaled_at(code: Code, scaled: &[u8; 40], column: usize, symbol: u8) -> u8
 }
 
 // The number of a word's columns.
-pub fn pack(code: Code, columns: [u8; 10]) -> u64
+pub(crate) fn pack(code: Code, columns: [u8; 10]) -> u64
     ensures { λ r. ⌜ r ≡ wordNumber (held (projection code) columns) ⌝ }
 {
     let mut number: u64 = 0;
@@ -69,7 +69,7 @@ pub fn pack(code: Code, columns: [u8; 10]) -> u64
 }
 
 // One walk over the columns of a word. `scaled` has the columns of the check matrix times each symbol.
-pub fn walk_columns(code: Code, scaled: &[u8; 40], columns: [u8; 10]) -> Walk
+pub(crate) fn walk_columns(code: Code, scaled: &[u8; 40], columns: [u8; 10]) -> Walk
     requires { ⌜ now scaled ≡ scaledColumns (projection code) ⌝ }
     ensures { λ r. ⌜ Walked (projection code .rows) (projection code .matrix) (held (projection code) columns) (r .syndrome) (r .top) (r .odd) ⌝ }
 {

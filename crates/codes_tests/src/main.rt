@@ -4,6 +4,7 @@ use codes::Encoded;
 use libc::STDOUT_FILENO;
 ghost use Prim.Native.Nat.{_≤_, _<_};
 
+// Writes a text.
 fn text(bytes: &[u8]) {
     io::write_all(STDOUT_FILENO, bytes);
 }
@@ -28,6 +29,7 @@ fn write(code: u64, message: u64) {
     text(b"\n");
 }
 
+// A strict reading on a line: the message, or the refusal.
 fn read(code: u64, word: u64) {
     named(b"code ", code);
     text(b" reads ");
@@ -63,12 +65,14 @@ fn back(code: u64, limit: u64, stride: u64) -> u64
     count
 }
 
+// 1 where it is so, otherwise 0.
 fn counted(bit: bool) -> u64
     ensures { λ r. ⌜ r ≤ 1 ⌝ }
 {
     if bit { 1 } else { 0 }
 }
 
+// Tries messages of a code, and tells how many come back.
 fn report(code: u64, limit: u64, stride: u64)
     requires { ⌜ (limit ≤ 4194304) × (0 < stride) × (stride ≤ 64) ⌝ }
 {

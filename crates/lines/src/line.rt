@@ -57,7 +57,7 @@ fn end_refusal(out: &mut [u8], at: usize, refusal: Refusal) -> usize
 }
 
 // A slot's line, by what a read of it answers.
-pub fn slot_line(out: &mut [u8], at: usize, slot: u64, answer: ReadAnswer) -> usize
+pub(crate) fn slot_line(out: &mut [u8], at: usize, slot: u64, answer: ReadAnswer) -> usize
     requires { ⌜ at + 110 ≤ length (now out) ⌝ }
     ensures { λ r. ⌜ Written (now (out .entry)) at (slotLine slot (readAnswer answer)) (now (out .exit)) r ⌝ }
     ensures { λ r. ⌜ r ≤ at + 110 ⌝ }
@@ -70,7 +70,7 @@ pub fn slot_line(out: &mut [u8], at: usize, slot: u64, answer: ReadAnswer) -> us
 }
 
 // The last line: the number of slots, and how many are blank, read, over, lost and bad.
-pub fn total_line(out: &mut [u8], at: usize, slots: u64, s: Survey) -> usize
+pub(crate) fn total_line(out: &mut [u8], at: usize, slots: u64, s: Survey) -> usize
     requires { ⌜ at + 132 ≤ length (now out) ⌝ }
     ensures { λ r. ⌜ Written (now (out .entry)) at (totalLine slots (s .blank ∷ s .read ∷ s .over ∷ s .lost ∷ s .bad ∷ [])) (now (out .exit)) r ⌝ }
     ensures { λ r. ⌜ r ≤ at + 132 ⌝ }
@@ -80,7 +80,7 @@ pub fn total_line(out: &mut [u8], at: usize, slots: u64, s: Survey) -> usize
 }
 
 // The only line of a refused file.
-pub fn refused_line(out: &mut [u8], number: u64) -> usize
+pub(crate) fn refused_line(out: &mut [u8], number: u64) -> usize
     requires { ⌜ 29 ≤ length (now out) ⌝ }
     ensures { λ r. ⌜ Written (now (out .entry)) 0 (refusedLine number) (now (out .exit)) r ⌝ }
     ensures { λ r. ⌜ r ≤ 29 ⌝ }

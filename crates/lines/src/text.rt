@@ -13,7 +13,7 @@ fn digit(d: u64) -> u8
 }
 
 // A number's decimal digits.
-pub fn write_decimal(out: &mut [u8], at: usize, n: u64) -> usize
+pub(crate) fn write_decimal(out: &mut [u8], at: usize, n: u64) -> usize
     requires { ⌜ at + length (decimal n) ≤ length (now out) ⌝ }
     ensures { λ r. ⌜ Written (now (out .entry)) at (decimal n) (now (out .exit)) r ⌝ }
 {
@@ -27,7 +27,7 @@ pub fn write_decimal(out: &mut [u8], at: usize, n: u64) -> usize
 }
 
 // The bytes of a text.
-pub fn write_text(out: &mut [u8], at: usize, text: &[u8]) -> usize
+pub(crate) fn write_text(out: &mut [u8], at: usize, text: &[u8]) -> usize
     requires { ⌜ at + length (now text) ≤ length (now out) ⌝ }
     ensures { λ r. ⌜ Written (now (out .entry)) at (now (text .entry)) (now (out .exit)) r ⌝ }
 {
@@ -42,7 +42,7 @@ pub fn write_text(out: &mut [u8], at: usize, text: &[u8]) -> usize
 }
 
 // Each number after a space.
-pub fn write_numbers(out: &mut [u8], at: usize, numbers: &[u64]) -> usize
+pub(crate) fn write_numbers(out: &mut [u8], at: usize, numbers: &[u64]) -> usize
     requires { ⌜ at + 21 * length (now numbers) ≤ length (now out) ⌝ }
     ensures { λ r. ⌜ Written (now (out .entry)) at (spaced (now (numbers .entry))) (now (out .exit)) r ⌝ }
     ensures { λ r. ⌜ r ≤ at + 21 * length (now (numbers .entry)) ⌝ }

@@ -3,6 +3,7 @@
 use libc::STDOUT_FILENO;
 use trace::Done;
 
+// Writes a text.
 fn text(bytes: &[u8]) {
     io::write_all(STDOUT_FILENO, bytes);
 }
@@ -22,6 +23,7 @@ fn done(answer: Done) {
     }
 }
 
+// Files that are too short for a trailer, or end with none.
 fn refused_files() {
     text(b"no bytes, seven, and eight that are no trailer\n");
     let none: [u8; 0] = [];
@@ -32,6 +34,7 @@ fn refused_files() {
     list(&eight);
 }
 
+// The longest file that is listed, of one blank slot behind free bytes.
 fn longest_file() {
     text(b"65536 bytes\n");
     let mut file = [0u8; 65536];
@@ -39,6 +42,7 @@ fn longest_file() {
     list(&file);
 }
 
+// One byte more.
 fn longer_file() {
     text(b"65537 bytes\n");
     let mut file = [0u8; 65537];
@@ -46,6 +50,7 @@ fn longer_file() {
     list(&file);
 }
 
+// Bytes before the slots, which are the file's own.
 fn free_bytes() {
     text(b"nineteen free bytes\n");
     let mut file = [255u8; 49];
@@ -86,6 +91,7 @@ fn statuses(code: u64, step: u64) {
     list(&file);
 }
 
+// As many slots as a trace can have.
 fn most_slots() {
     text(b"4000 slots: bytes listed ");
     let mut file = [0u8; 44008];

@@ -47,7 +47,7 @@ fn read_agrees(answer: ReadAnswer, code: u64, slot: Slot, near: u64, kept: u64) 
 }
 
 // How often `correct` says something else than the search.
-pub fn disagreements_of_correct(
+pub(crate) fn disagreements_of_correct(
     code: u64,
     words: &[u64; WORDS],
     marks: &[u64; WORDS],
@@ -66,7 +66,7 @@ pub fn disagreements_of_correct(
 }
 
 // How often a read of a slot says something else than the search.
-pub fn disagreements_of_reads(code: u64, trials: [Trial; LISTS], found: Found) -> u64
+pub(crate) fn disagreements_of_reads(code: u64, trials: [Trial; LISTS], found: Found) -> u64
     ensures { λ r. ⌜ r ≤ 52 ⌝ }
 {
     let mut count: u64 = 0;

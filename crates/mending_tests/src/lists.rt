@@ -15,7 +15,8 @@ use trace::Done;
 use trace::ReadAnswer;
 ghost use Prim.Native.Nat.{_<_};
 
-pub const LISTS: usize = 4;
+// The lists of a code, and the calls of a list.
+pub(crate) const LISTS: usize = 4;
 
 const CALLS: u64 = 400;
 
@@ -29,10 +30,10 @@ const SLOTS: usize = 13;
 const BYTES: usize = 11 * SLOTS + 8;
 
 // The slots of all lists.
-pub const ALL: usize = LISTS * SLOTS;
+pub(crate) const ALL: usize = LISTS * SLOTS;
 
 // A trace after a list of calls, and its slots as they should be then.
-pub struct Trial {
+pub(crate) struct Trial {
     bytes: [u8; BYTES],
     slots: [Slot; SLOTS],
 }
@@ -89,12 +90,12 @@ fn run(code: u64, list: u64) -> Trial
 }
 
 // Makes the trace and the calls of every list.
-pub fn run_all(code: u64) -> [Trial; LISTS] {
+pub(crate) fn run_all(code: u64) -> [Trial; LISTS] {
     [run(code, 0), run(code, 1), run(code, 2), run(code, 3)]
 }
 
 // A slot as it should be, counted through all traces.
-pub fn slot(trials: [Trial; LISTS], j: usize) -> Slot
+pub(crate) fn slot(trials: [Trial; LISTS], j: usize) -> Slot
     requires { ⌜ j < 52 ⌝ }
 {
     let trial = trials[j / SLOTS];
@@ -107,7 +108,7 @@ fn read_slot(b: &[u8; BYTES], slot: u64) -> ReadAnswer {
 }
 
 // Reads a slot, counted through all traces.
-pub fn read(trials: [Trial; LISTS], j: usize) -> ReadAnswer
+pub(crate) fn read(trials: [Trial; LISTS], j: usize) -> ReadAnswer
     requires { ⌜ j < 52 ⌝ }
 {
     let trial = trials[j / SLOTS];
@@ -116,7 +117,7 @@ pub fn read(trials: [Trial; LISTS], j: usize) -> ReadAnswer
 }
 
 // Puts the slots' words and marks behind the samples.
-pub fn append(trials: [Trial; LISTS], words: &mut [u64; WORDS], marks: &mut [u64; WORDS]) {
+pub(crate) fn append(trials: [Trial; LISTS], words: &mut [u64; WORDS], marks: &mut [u64; WORDS]) {
     let mut j: usize = 0;
     while j < ALL {
         let slot = slot(trials, j);
@@ -127,7 +128,7 @@ pub fn append(trials: [Trial; LISTS], words: &mut [u64; WORDS], marks: &mut [u64
 }
 
 // The slots of a group.
-pub fn slots_in(code: u64, trials: [Trial; LISTS], wanted: u64) -> u64 {
+pub(crate) fn slots_in(code: u64, trials: [Trial; LISTS], wanted: u64) -> u64 {
     let mut count: u64 = 0;
     let mut j: usize = 0;
     while j < ALL {

@@ -19,6 +19,7 @@ use search::WORDS;
 use search::search;
 use search::words_with;
 
+// Writes a text.
 fn text(bytes: &[u8]) {
     io::write_all(STDOUT_FILENO, bytes);
 }
@@ -43,6 +44,7 @@ fn show(code: u64, word: u64, marks: u64) {
     text(b"\n");
 }
 
+// A codeword, its message and both counts.
 fn show_near(c: Correction) {
     text(b": ");
     io::print_hex(STDOUT_FILENO, c.codeword, 9);

@@ -6,7 +6,8 @@ use crate::words::messages;
 use crate::words::width;
 ghost use Prim.Native.Nat.{_≤_, _<_};
 
-pub const SAMPLES: usize = 52;
+// How many samples there are.
+pub(crate) const SAMPLES: usize = 52;
 
 // A number around a width.
 fn around(number: u64, width: u64) -> u64
@@ -57,7 +58,7 @@ fn around_codewords(code: u64, words: &mut [u64; WORDS], marks: &mut [u64; WORDS
 
 // The samples and their marks: words around codewords, words four and five positions on the way from one codeword to another that is
 // eight away, noise, and document 01's words.
-pub fn prepare(code: u64, words: &mut [u64; WORDS], marks: &mut [u64; WORDS]) {
+pub(crate) fn prepare(code: u64, words: &mut [u64; WORDS], marks: &mut [u64; WORDS]) {
     around_codewords(code, words, marks);
     let c = codeword(code, 314159);
     let shift = width(code) - 8;

@@ -7,10 +7,10 @@ use codes::Encoded;
 ghost use Prim.Native.Nat.{_≤_};
 
 // The words that are tried: the samples, and behind them what the lists leave in slots.
-pub const WORDS: usize = SAMPLES + ALL;
+pub(crate) const WORDS: usize = SAMPLES + ALL;
 
 // What the search found for each word: how many codewords are near, 0, 1, or 2 for more than one, and the message of the last of them.
-pub struct Found {
+pub(crate) struct Found {
     pub near: [u64; WORDS],
     pub kept: [u64; WORDS],
 }
@@ -40,7 +40,7 @@ fn hold(
 }
 
 // Holds every codeword of a code against each word.
-pub fn search(code: u64, words: &[u64; WORDS], marks: &[u64; WORDS]) -> Found {
+pub(crate) fn search(code: u64, words: &[u64; WORDS], marks: &[u64; WORDS]) -> Found {
     let mut near = [0u64; WORDS];
     let mut kept = [0u64; WORDS];
     let messages = messages(code);
@@ -58,14 +58,14 @@ pub fn search(code: u64, words: &[u64; WORDS], marks: &[u64; WORDS]) -> Found {
 }
 
 // 1 where it is so, otherwise 0.
-pub fn counted(bit: bool) -> u64
+pub(crate) fn counted(bit: bool) -> u64
     ensures { λ r. ⌜ r ≤ 1 ⌝ }
 {
     if bit { 1 } else { 0 }
 }
 
 // The words near which the search found n codewords.
-pub fn words_with(found: Found, n: u64) -> u64 {
+pub(crate) fn words_with(found: Found, n: u64) -> u64 {
     let mut count: u64 = 0;
     let mut j: usize = 0;
     while j < WORDS {

@@ -6,7 +6,7 @@ use crate::words::sum;
 use crate::words::width;
 
 // A slot; the message is the one that was put last. A blank slot's numbers are 0.
-pub struct Slot {
+pub(crate) struct Slot {
     pub written: bool,
     pub message: u64,
     pub word: u64,
@@ -14,7 +14,7 @@ pub struct Slot {
 }
 
 // A call that changes a slot.
-pub enum Call {
+pub(crate) enum Call {
     // Step and reading.
     Put(u64, u64),
     Clear,
@@ -25,7 +25,7 @@ pub enum Call {
 
 impl Slot {
     // A slot that was never written, or was cleared.
-    pub fn blank() -> Slot {
+    pub(crate) fn blank() -> Slot {
         Slot {
             written: false,
             message: 0,
@@ -76,7 +76,7 @@ impl Slot {
     }
 
     // After a call.
-    pub fn after(self, code: u64, call: Call) -> Slot {
+    pub(crate) fn after(self, code: u64, call: Call) -> Slot {
         match call {
             Call::Put(step, reading) => self.put(code, step, reading),
             Call::Clear => Slot::blank(),
@@ -86,7 +86,7 @@ impl Slot {
     }
 
     // The slot's group: its sum from 0 to 10 against the codeword of its message, 11 for a larger one, 12 for a blank slot.
-    pub fn group(self, code: u64) -> u64 {
+    pub(crate) fn group(self, code: u64) -> u64 {
         if !self.written {
             return 12;
         }

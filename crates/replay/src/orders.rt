@@ -8,7 +8,7 @@ ghost use Rattle.replay.specs.Rows.{Ordered};
 const KINDS: u64 = 6;
 
 // A call: its kind and its numbers, 0 past the last.
-pub struct Order {
+pub(crate) struct Order {
     pub kind: u64,
     pub x: u64,
     pub y: u64,
@@ -16,7 +16,7 @@ pub struct Order {
 }
 
 // A call and how many numbers it takes, or none.
-pub enum Next {
+pub(crate) enum Next {
     Call(Order, usize),
     Stop,
 }
@@ -46,7 +46,7 @@ fn number(xs: &[u64], i: usize) -> u64
 }
 
 // The call that a list of numbers begins with.
-pub fn next_order(xs: &[u64]) -> Next
+pub(crate) fn next_order(xs: &[u64]) -> Next
     ensures { λ r. ⌜ Ordered (now (xs .entry)) r ⌝ }
 {
     if xs.len() < 2 {

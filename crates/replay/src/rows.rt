@@ -13,14 +13,14 @@ ghost use Rattle.trace.specs.Answers.{refusalNumber, doneAnswer, readAnswer, su
 ghost use Rattle.replay.specs.Rows.{rowNumbers, RowOf, Telling};
 
 // An answer's numbers: the refusal's or 0, the count of values, and the values, 0 past the last.
-pub struct Row {
+pub(crate) struct Row {
     pub refusal: u64,
     pub count: usize,
     pub values: [u64; 9],
 }
 
 // How many numbers were written, or that there was no room.
-pub enum Told {
+pub(crate) enum Told {
     Written(usize),
     NoRoom,
 }
@@ -37,7 +37,7 @@ fn refused_row(r: Refusal) -> Row
 }
 
 // The row of a put, flip, mark or clear.
-pub fn done_row(answer: Done) -> Row
+pub(crate) fn done_row(answer: Done) -> Row
     ensures { λ o. ⌜ RowOf (doneAnswer answer) o × (o .count ≡ 0) ⌝ }
 {
     match answer {
@@ -51,7 +51,7 @@ pub fn done_row(answer: Done) -> Row
 }
 
 // The row of a read: step, reading, wrong and marks, or its refusal.
-pub fn read_row(answer: ReadAnswer) -> Row
+pub(crate) fn read_row(answer: ReadAnswer) -> Row
     ensures { λ o. ⌜ RowOf (readAnswer answer) o ⌝ }
 {
     match answer {
@@ -94,7 +94,7 @@ fn counts_row(s: Survey) -> Row
 }
 
 // The row of a survey: its counts, or its refusal.
-pub fn survey_row(answer: SurveyAnswer) -> Row
+pub(crate) fn survey_row(answer: SurveyAnswer) -> Row
     ensures { λ o. ⌜ RowOf (surveyAnswer answer) o ⌝ }
 {
     match answer {
@@ -104,7 +104,7 @@ pub fn survey_row(answer: SurveyAnswer) -> Row
 }
 
 // Writes a row to the front of a slice, where it has room.
-pub fn tell(out: &mut [u64], row: Row) -> Told
+pub(crate) fn tell(out: &mut [u64], row: Row) -> Told
     requires { ⌜ (row .count ≤ 9) × (length (row .values) ≡ 9) ⌝ }
     ensures { λ r. ⌜ Telling (rowNumbers row) (now (out .entry)) (now (out .exit)) r ⌝ }
 {

@@ -18,7 +18,7 @@ ghost use Rattle.replay.specs.Replay.{Replayed};
 const READ: u64 = 4;
 
 // How many numbers a call took and its answer has, or that no call ran.
-pub enum Turned {
+pub(crate) enum Turned {
     Ran(usize, usize),
     Stop,
 }

@@ -6,7 +6,8 @@ use trace::ReadAnswer;
 use trace::Refusal;
 use trace::SurveyAnswer;
 
-pub fn write_text(text: &[u8]) {
+// Writes a text.
+pub(crate) fn write_text(text: &[u8]) {
     io::write_all(STDOUT_FILENO, text);
 }
 
@@ -24,7 +25,7 @@ fn write_refusal(refusal: Refusal) {
 }
 
 // The line of a make, put, flip, mark or clear.
-pub fn write_done(done: Done) {
+pub(crate) fn write_done(done: Done) {
     match done {
         Done::Accepted => write_text(b"ok\n"),
         Done::Refused(r) => write_refusal(r),
@@ -32,7 +33,7 @@ pub fn write_done(done: Done) {
 }
 
 // The line of a read: step, reading, wrong, marks.
-pub fn write_read(answer: ReadAnswer) {
+pub(crate) fn write_read(answer: ReadAnswer) {
     match answer {
         ReadAnswer::Refused(r) => write_refusal(r),
         ReadAnswer::Mended(v) => {
@@ -60,7 +61,7 @@ fn write_pressures(pressures: Pressures) {
 }
 
 // The line of a survey: blank, read, over, lost, bad, sum, smallest, largest, mean.
-pub fn write_survey(answer: SurveyAnswer) {
+pub(crate) fn write_survey(answer: SurveyAnswer) {
     match answer {
         SurveyAnswer::Refused(r) => write_refusal(r),
         SurveyAnswer::Counts(s) => {
@@ -86,13 +87,14 @@ fn upper(digit: u8) -> u8 {
     }
 }
 
+// A byte as two hexadecimal digits.
 fn write_byte(byte: u8) {
     let digits = [upper(byte / 16), upper(byte % 16)];
     write_text(&digits);
 }
 
 // The line of a buffer's bytes, in hexadecimal.
-pub fn write_bytes(b: &[u8]) {
+pub(crate) fn write_bytes(b: &[u8]) {
     let mut i = 0;
     while i < b.len() {
         write_byte(b[i]);

@@ -10,7 +10,7 @@ ghost use lib.ListN.{length};
 ghost use Rattle.replay_script.specs.Lending.{place, hexValue, isHex, hexBytes, zeros, countOf, lineLends, lending, lendIn, Fits};
 
 // How many bytes are lent.
-pub enum Lent {
+pub(crate) enum Lent {
     Bytes(usize),
     Nothing,
 }
@@ -101,7 +101,7 @@ fn count(word: &[u8]) -> Number
 }
 
 // Lends the buffer that a line asks for. Any other line changes nothing.
-pub fn lend(line: &[u8], buffer: &mut [u8]) -> Lent
+pub(crate) fn lend(line: &[u8], buffer: &mut [u8]) -> Lent
     ensures { λ r. ⌜ (lending r (now (buffer .exit)) ≡ lendIn (lineLends (now (line .entry))) (now (buffer .entry)))
         × Fits (length (now (buffer .entry))) r ⌝ }
 {

@@ -8,6 +8,7 @@ ghost use Prim.Native.Nat.{_≤_};
 ghost use lib.ListN.{length, drop};
 ghost use Rattle.script.specs.Script.{andOn, numbersOn, rest, is, commandOf, meaning};
 
+// What stands between words.
 const SPACE: u8 = b' ';
 
 // What a line asks for; `Bytes` asks for the buffer itself.
@@ -28,7 +29,7 @@ pub enum Command {
 }
 
 // Up to three numbers.
-pub enum Numbers {
+pub(crate) enum Numbers {
     None,
     One(u64),
     Two(u64, u64),

@@ -4,6 +4,7 @@ ghost use Prim.Native.Nat.{_+_, _^_, _<_, _≤_};
 ghost use lib.ListN.{length};
 ghost use Rattle.trace.specs.Layout.{bytesOf, numberFrom, numberAt, overwrite};
 
+// A byte as a number.
 fn wide(x: u8) -> u64
     ensures { λ r. ⌜ (r ≡ x) × (r < 256) ⌝ }
 {
@@ -25,7 +26,7 @@ fn number(part: &[u8]) -> u64
 }
 
 // The number in `size` bytes from `at` on.
-pub fn number_at(b: &[u8], at: usize, size: usize) -> u64
+pub(crate) fn number_at(b: &[u8], at: usize, size: usize) -> u64
     requires { ⌜ (at + size ≤ length (now b)) × (size ≤ 5) ⌝ }
     ensures { λ r. ⌜ (r ≡ numberAt (now (b .entry)) at size) × (r < 256 ^ size) ⌝ }
 {
@@ -47,7 +48,7 @@ fn fill(part: &mut [u8], value: u64)
 }
 
 // Writes a number into `size` bytes from `at` on.
-pub fn store(b: &mut [u8], at: usize, size: usize, value: u64)
+pub(crate) fn store(b: &mut [u8], at: usize, size: usize, value: u64)
     requires { ⌜ at + size ≤ length (now b) ⌝ }
     ensures { λ _. ⌜ now (b .exit) ≡ overwrite (now (b .entry)) at (bytesOf size value) ⌝ }
 {

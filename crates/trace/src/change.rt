@@ -20,7 +20,7 @@ ghost use Rattle.trace.specs.Answers.{doneAnswer};
 ghost use Rattle.trace.specs.Found.{Room, callOf, changeAt};
 
 // A change of a slot.
-pub enum Change {
+pub(crate) enum Change {
     // Step and reading.
     Put(u64, u64),
     // Position.
@@ -92,7 +92,7 @@ fn change_at(b: &mut [u8], place: Place, code: Code, change: Change) -> Done
 }
 
 // Changes a slot of the trace in a buffer.
-pub fn change_slot(b: &mut [u8], slot: u64, change: Change) -> Done
+pub(crate) fn change_slot(b: &mut [u8], slot: u64, change: Change) -> Done
     ensures { λ r. ⌜ after (doneAnswer r) (now (b .exit)) ≡ onBytes (callOf slot change) (now (b .entry)) ⌝ }
 {
     match find(b, slot) {

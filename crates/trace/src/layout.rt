@@ -11,48 +11,53 @@ ghost use Rattle.trace.specs.Layout.{placeFrom, overwrite, trailer, made
 ghost use Rattle.trace.specs.Refusals.{isCount};
 ghost use Rattle.trace.specs.Found.{Fitting, Opening, Finding};
 
-pub const SLOT: usize = 11;
+// The bytes of a slot.
+pub(crate) const SLOT: usize = 11;
 
-pub const TRAILER: usize = 8;
+// The bytes of the trailer.
+pub(crate) const TRAILER: usize = 8;
 
+// The most slots of a trace.
 const MOST_SLOTS: u64 = 4000;
 
+// The layout that a trailer names.
 const EDITION: u64 = 1;
 
 // Where a slot's state, word and marks lie.
-pub struct Place {
+pub(crate) struct Place {
     pub state: usize,
     pub word: usize,
     pub marks: usize,
 }
 
 // What a fit trailer says: where slot 0 lies, the number of slots, and the code.
-pub struct Header {
+pub(crate) struct Header {
     pub start: usize,
     pub slots: usize,
     pub code: Code,
 }
 
-pub enum Opened {
+// A buffer whose trailer is fit, or why it is refused.
+pub(crate) enum Opened {
     Fit(Header),
     Refused(Refusal),
 }
 
 // A slot's place and code.
-pub enum Found {
+pub(crate) enum Found {
     At(Place, Code),
     Refused(Refusal),
 }
 
 // Whether a trace can have this many slots.
-pub fn is_count(slots: u64) -> bool
+pub(crate) fn is_count(slots: u64) -> bool
     ensures { λ r. ⌜ r ≡ isCount slots ⌝ }
 {
     1 <= slots && slots <= MOST_SLOTS
 }
 
 // The place of a slot, with slot 0 at `start`.
-pub fn place_from(start: usize, slot: usize) -> Place
+pub(crate) fn place_from(start: usize, slot: usize) -> Place
     requires { ⌜ start + 11 * slot + 11 < 2 ^ 64 ⌝ }
     ensures { λ r. ⌜ r ≡ placeFrom start slot ⌝ }
 {
@@ -93,7 +98,7 @@ fn fit(before: usize, distance: u64, slots: u64, number: u64, edition: u64) -> O
 }
 
 // Refusals 7 and 8: what a buffer's trailer says.
-pub fn open(b: &[u8]) -> Opened
+pub(crate) fn open(b: &[u8]) -> Opened
     ensures { λ r. ⌜ Opening (now (b .entry)) r ⌝ }
 {
     if b.len() < TRAILER {
@@ -110,7 +115,7 @@ pub fn open(b: &[u8]) -> Opened
 }
 
 // Refusals 7, 8 and 9: where a slot lies.
-pub fn find(b: &[u8], slot: u64) -> Found
+pub(crate) fn find(b: &[u8], slot: u64) -> Found
     ensures { λ r. ⌜ Finding (now (b .entry)) slot r ⌝ }
 {
     match open(b) {
@@ -133,14 +138,14 @@ fn seal(b: &mut [u8], at: usize, code: u64, slots: u64)
     requires { ⌜ (at + 8 ≤ length (now b)) × (slots ≤ 4000) ⌝ }
     ensures { λ _. ⌜ now (b .exit) ≡ overwrite (now (b .entry)) at (trailer code slots) ⌝ }
 {
-    store(b, at, 4, 11 * slots);
+    store(b, at, 4, SLOT as u64 * slots);
     store(b, at + 4, 2, slots);
     store(b, at + 6, 1, code);
     store(b, at + 7, 1, EDITION);
 }
 
 // Writes blank slots and the trailer at the buffer's end.
-pub fn lay(b: &mut [u8], code: u64, slots: u64)
+pub(crate) fn lay(b: &mut [u8], code: u64, slots: u64)
     requires { ⌜ (11 * slots + 8 ≤ length (now b)) × (slots ≤ 4000) ⌝ }
     ensures { λ _. ⌜ now (b .exit) ≡ made code slots (now (b .entry)) ⌝ }
 {

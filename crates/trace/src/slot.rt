@@ -19,21 +19,22 @@ ghost use Rattle.trace.specs.Trace.{readMended};
 ghost use Rattle.trace.specs.Answers.{readAnswer};
 ghost use Rattle.trace.specs.Found.{Room, Judging, Looking, Aiming, contentRows};
 
+// The states of a slot.
 const BLANK: u64 = 0;
 
 const WRITTEN: u64 = 1;
 
 // A message is a step times this plus a reading.
-pub const READINGS: u64 = 4096;
+pub(crate) const READINGS: u64 = 4096;
 
 // A written slot's word and marks.
-pub enum Content {
+pub(crate) enum Content {
     Written(u64, u64),
     Refused(Refusal),
 }
 
 // A written slot's word and marks, and the bit of a position.
-pub enum Target {
+pub(crate) enum Target {
     Bit(u64, u64, u64),
     Refused(Refusal),
 }
@@ -73,7 +74,7 @@ fn judge(code: Code, state: u64, word: u64, marks: u64) -> Content
 }
 
 // Refusals 10 and 11: what the slot at a place holds.
-pub fn look(b: &[u8], place: Place, code: Code) -> Content
+pub(crate) fn look(b: &[u8], place: Place, code: Code) -> Content
     requires { ⌜ Room (length (now b)) place ⌝ }
     ensures { λ r. ⌜ Looking (projection code) (now (b .entry)) place r ⌝ }
 {
@@ -86,7 +87,7 @@ pub fn look(b: &[u8], place: Place, code: Code) -> Content
 }
 
 // Refusals 10, 11 and 12: what the slot at a place holds, and a position's bit.
-pub fn aim(b: &[u8], place: Place, code: Code, position: u64) -> Target
+pub(crate) fn aim(b: &[u8], place: Place, code: Code, position: u64) -> Target
     requires { ⌜ Room (length (now b)) place ⌝ }
     ensures { λ r. ⌜ Aiming (projection code) (now (b .entry)) place position r ⌝ }
 {
@@ -119,7 +120,7 @@ fn read_word(code: Code, word: u64, marks: u64) -> ReadAnswer
 }
 
 // Refusals 10, 11 and 5: mends the slot at a place.
-pub fn read_at(b: &[u8], place: Place, code: Code) -> ReadAnswer
+pub(crate) fn read_at(b: &[u8], place: Place, code: Code) -> ReadAnswer
     requires { ⌜ Room (length (now b)) place ⌝ }
     ensures { λ r. ⌜ readAnswer r ≡ unless (contentRows (projection code) (now (b .entry)) place)
         (readMended (mend (projection code) (wordAt (now (b .entry)) place) (marksAt (now (b .entry)) place))) ⌝ }
@@ -141,7 +142,7 @@ fn write(b: &mut [u8], place: Place, state: u64, word: u64, marks: u64)
 }
 
 // Writes a written slot.
-pub fn write_slot(b: &mut [u8], place: Place, word: u64, marks: u64)
+pub(crate) fn write_slot(b: &mut [u8], place: Place, word: u64, marks: u64)
     requires { ⌜ Room (length (now b)) place ⌝ }
     ensures { λ _. ⌜ now (b .exit) ≡ storeAt (now (b .entry)) place 1 word marks ⌝ }
 {
@@ -149,7 +150,7 @@ pub fn write_slot(b: &mut [u8], place: Place, word: u64, marks: u64)
 }
 
 // Blanks a slot.
-pub fn blank_slot(b: &mut [u8], place: Place)
+pub(crate) fn blank_slot(b: &mut [u8], place: Place)
     requires { ⌜ Room (length (now b)) place ⌝ }
     ensures { λ _. ⌜ now (b .exit) ≡ storeAt (now (b .entry)) place 0 0 0 ⌝ }
 {

@@ -47,6 +47,7 @@ enum Call {
     Clear(u64),
 }
 
+// The call's name and numbers.
 fn tell_call(call: Call) {
     match call {
         Call::Put(slot, step, reading) => {
@@ -66,6 +67,7 @@ fn tell_call(call: Call) {
     }
 }
 
+// Makes the call.
 fn run(b: &mut [u8], call: Call) -> Done {
     match call {
         Call::Put(slot, step, reading) => trace::put(b, slot, step, reading),
@@ -87,6 +89,7 @@ fn change(buffer: [u8; 64], length: usize, call: Call) -> [u8; 64]
     b
 }
 
+// Each call on the first bytes of a buffer, on a line; those that change a slot give the buffer back.
 fn put(buffer: [u8; 64], length: usize, slot: u64, step: u64, reading: u64) -> [u8; 64]
     requires { ⌜ length ≤ 64 ⌝ }
 {
@@ -292,6 +295,7 @@ fn sums(one: [u8; 64]) {
     survey(clear(seven, 64, 0), 64);
 }
 
+// Reads of a slot that is written, damaged, marked and written again.
 fn reads(code: u64) {
     let b = put(make([0u8; 64], 64, code, 1), 64, 0, 74, 2385);
     read(b, 64, 0);

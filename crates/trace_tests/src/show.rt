@@ -8,21 +8,23 @@ use trace::Refusal;
 use trace::Survey;
 use trace::SurveyAnswer;
 
-pub fn text(bytes: &[u8]) {
+// Writes a text.
+pub(crate) fn text(bytes: &[u8]) {
     io::write_all(STDOUT_FILENO, bytes);
 }
 
 // A number after its name.
-pub fn named(name: &[u8], n: u64) {
+pub(crate) fn named(name: &[u8], n: u64) {
     text(name);
     io::print_decimal(STDOUT_FILENO, n);
 }
 
+// What each kind of answer says, after a colon.
 fn tell_refusal(r: Refusal) {
     named(b": refused ", r.number());
 }
 
-pub fn tell_done(answer: Done) {
+pub(crate) fn tell_done(answer: Done) {
     match answer {
         Done::Accepted => text(b": accepted"),
         Done::Refused(r) => tell_refusal(r),
@@ -36,7 +38,7 @@ fn tell_values(v: Reading) {
     named(b", marks ", v.marks);
 }
 
-pub fn tell_read(answer: ReadAnswer) {
+pub(crate) fn tell_read(answer: ReadAnswer) {
     match answer {
         ReadAnswer::Mended(v) => tell_values(v),
         ReadAnswer::Refused(r) => tell_refusal(r),
@@ -65,7 +67,7 @@ fn tell_counts(s: Survey) {
     tell_pressures(p);
 }
 
-pub fn tell_survey(answer: SurveyAnswer) {
+pub(crate) fn tell_survey(answer: SurveyAnswer) {
     match answer {
         SurveyAnswer::Counts(s) => tell_counts(s),
         SurveyAnswer::Refused(r) => tell_refusal(r),
@@ -73,7 +75,7 @@ pub fn tell_survey(answer: SurveyAnswer) {
 }
 
 // Ends a line with whether any byte changed.
-pub fn bytes_changed(old: &[u8; 64], new: &[u8; 64]) {
+pub(crate) fn bytes_changed(old: &[u8; 64], new: &[u8; 64]) {
     if check::same(old, new) {
         text(b", no byte changed\n");
         return;
