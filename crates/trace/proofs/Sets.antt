@@ -1,5 +1,5 @@
--- The plain trace's sets: exclusive or and or with the bit of a position change that position alone. The bit of one position has no one
--- at another; the digits of both operations are those of their operands' digits.
+-- The plain trace's sets: exclusive or and or with the bit of a position change that position alone, and or does it once. The bit of one
+-- position has no one at another; the digits of both operations are those of their operands' digits.
 -- Assumes nothing.
 use Prim.Native.Nat.{ℕ, zero, suc, _+_, _-_, _/_, _%_, _^_, _<_, max}
 use mathlib.Core.Path.{_≡_, refl}
@@ -7,8 +7,10 @@ use mathlib.Core.Logic.{⊎-elim}
 use native.Mathlib.Nat.{pow-suc, div-eq-of-lt, div-self}
 use native.Mathlib.Omega.{arith}
 use lib.Pow.{pow-add, pow-lt, pow-pos, shl-shr}
-use lib.Bits.{bitXor, bitOr, differ, xor-shr, or-shr, or-step}
+use lib.Arith.{bin-ind}
+use lib.Bits.{bitXor, bitOr, differ, xor-shr, or-shr, or-step, or-zero-l, or-self}
 use Rattle.codes.specs.Projection.{width}
+use Rattle.codes.specs.Word.{bit}
 use Rattle.trace.specs.Claims.{FlipToggles, MarkAdds}
 use Rattle.trace.proofs.Xor.{lowest}
 use Rattle.trace.proofs.Refinement.{lt-or-le}
@@ -26,10 +28,23 @@ other-digit j k h = ⊎-elim lower (λ le. higher (j - k - 1) (omega arith)) (lt
     higher : (d : ℕ) → j ≡ suc d + k → 2 ^ j / 2 ^ k % 2 ≡ 0
     higher d e = rw (e, pow-add 2 (suc d) k, shl-shr (2 ^ suc d) k, pow-suc 2 d) (omega arith)
 
--- the lowest digit of both operations
+-- or, digit by digit
 or-lowest : (a b : ℕ) → bitOr a b % 2 ≡ max (a % 2) (b % 2)
 or-lowest a b = omega (arith, or-step a b)
 
+or-half : (a b : ℕ) → bitOr a b / 2 ≡ bitOr (a / 2) (b / 2)
+or-half a b = omega (arith, or-step a b)
+
+max-twice : (x y : ℕ) → max (max x y) y ≡ max x y
+max-twice x y = omega arith
+
+-- what is added stays, if it is added again
+or-twice : (a b : ℕ) → bitOr (bitOr a b) b ≡ bitOr a b
+or-twice =
+    bin-ind (λ (n : ℕ). (b : ℕ) → bitOr (bitOr n b) b ≡ bitOr n b) (λ b. rw or-zero-l (or-self b))
+    (λ n ih b. cc (or-step (bitOr n b) b, or-half n b, or-lowest n b, or-step n b, ih (b / 2), max-twice (n % 2) (b % 2)))
+
+-- a digit that exclusive or toggles, and one that it keeps
 toggled : (x : ℕ) → x < 2 → differ x 1 ≡ 1 - x
 toggled zero h = refl
 toggled (suc zero) h = refl
@@ -67,4 +82,4 @@ flip-toggles π F position other hp ho =
 
 pub mark-adds : MarkAdds
 mark-adds π M position other hp ho =
-    (or-own M _ _ refl, λ differs. or-other M _ _ (λ e. differs (same-bit (width π) position other hp ho e)))
+    (or-own M _ _ refl, λ differs. or-other M _ _ (λ e. differs (same-bit (width π) position other hp ho e)), or-twice M (bit π position))

@@ -102,12 +102,13 @@ FlipToggles =
     → (bitAt π (bitXor F (bit π position)) position ≡ 1 - bitAt π F position)
     × ((other ≡ position → ⊥) → bitAt π (bitXor F (bit π position)) other ≡ bitAt π F other)
 
--- 'mark adds to M' that position, and no other
+-- 'mark adds to M' that position, and no other; 'a second mark changes nothing'
 abbrev pub MarkAdds : Type 0
 MarkAdds =
     (π : Projection) (M position other : ℕ) → position < width π → other < width π
     → (bitAt π (bitOr M (bit π position)) position ≡ 1)
     × ((other ≡ position → ⊥) → bitAt π (bitOr M (bit π position)) other ≡ bitAt π M other)
+    × (bitOr (bitOr M (bit π position)) (bit π position) ≡ bitOr M (bit π position))
 
 -- ---- the survey
 
