@@ -1,4 +1,6 @@
--- A put at a slot's place; and a change of a slot in a buffer is the change at the slot's place, once the slot is found.
+-- A put at a slot's place, test by test; and a change of a slot in a buffer, which is the change at the slot's place once the slot is found.
+-- The rows of such a call are its slot's (7, 8 and 9) and then its own. Where the first refuse, so does the call, and nothing changes; where
+-- they pass, its own decide.
 -- Assumes nothing.
 use Prim.Native.Nat.{ℕ, _<_, _≤_}
 use mathlib.Core.Path.{_≡_, refl}

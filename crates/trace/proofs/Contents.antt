@@ -1,4 +1,6 @@
 -- What a slot's state, word and marks say of it, test by test: bad, blank or written.
+-- A test that is met decides whether 10 or 11 is; a written slot that passes them meets neither. A slot that isn't written and has zeros is
+-- blank, as zero is below every limit.
 -- Assumes nothing.
 use Prim.Native.Nat.{ℕ, _^_, _<_, _≤_}
 use mathlib.Core.Path.{_≡_, refl}

@@ -1,4 +1,5 @@
 -- What the layers above may cite beside the claims: lists of calls, one call at a time; a slot's status; how many slots a survey counts.
+-- Lists of calls go as their definition says, which stays shut there.
 -- Assumes nothing.
 use mathlib.Core.Path.{_≡_, refl}
 use mathlib.Core.List.{List, [], _∷_}

@@ -1,4 +1,6 @@
 -- The parts of the layout, written one number after the other, are the layout's bytes.
+-- Numbers that are written one behind the other are written at once ('Overwriting'). So the three numbers of a slot and the four of a trailer
+-- are one write each; and zeros and trailer, which reach to the buffer's end, leave the bytes before them.
 -- Assumes nothing.
 use Prim.Native.Nat.{ℕ, _+_, _-_, _*_, _≤_}
 use mathlib.Core.Path.{_≡_, ap, _∙_}

@@ -1,4 +1,6 @@
 -- What making leaves: where its numbers are fit, and only there, it is accepted, and its bytes are those of the plain trace of blank slots.
+-- An accepted making has passed its three rows, which say that its numbers are fit. A blank slot's bytes are zeros, so N of them are the
+-- 11·N zeros that making writes.
 -- Assumes nothing.
 use Prim.Native.Nat.{ℕ, zero, suc, _+_, _-_, _*_, _≤_}
 use mathlib.Core.Path.{_≡_, refl, sym, _∙_}

@@ -1,4 +1,4 @@
--- The state that an answer leaves.
+-- The state that an answer leaves: the new one where the call is accepted, the old one where it is refused. By the cases of the answer.
 -- Assumes nothing.
 use Prim.Native.Nat.{ℕ}
 use mathlib.Core.Path.{_≡_, refl}
