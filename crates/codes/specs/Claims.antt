@@ -1,5 +1,6 @@
 -- The claims about the four codes (demand 2 and the word calls' part of demand 1; document 01, 'Columns and their values', 'The four codes',
--- 'Mending' and 'Refusals by what comes back'). Each is one definition, and one theorem of the same name in proofs/Claims.antt. They speak of the definitions, and so, by the contracts, of the functions.
+-- 'Mending' and 'Refusals by what comes back'). Each is one definition, and one theorem of the same name in proofs/Claims.antt. They speak
+-- of the definitions, and so, by the contracts, of the functions.
 -- Assumes nothing.
 use mathlib.Core.Path.{_≡_}
 use mathlib.Core.Bool.{true}

@@ -44,7 +44,8 @@ fn fitting(
     word: u64,
     marks: u64,
 ) -> u64
-    requires { ⌜ Tables (projection code) (now scaled) (now table) × (filled < 2 ^ width (projection code)) × (word < 2 ^ width (projection code)) × (marks < 2 ^ width (projection code)) ⌝ }
+    requires { ⌜ Tables (projection code) (now scaled) (now table) × (filled < 2 ^ width (projection code))
+        × (word < 2 ^ width (projection code)) × (marks < 2 ^ width (projection code)) ⌝ }
     ensures { λ r. ⌜ Sought (NearWithin (projection code) word marks 3 filled) r ⌝ }
 {
     let found = within_three(code, scaled, table, filled);

@@ -38,7 +38,8 @@ fn value_at(code: Code, message: u64, syndrome: u8, column: usize) -> u8
 // A column of a message, with a top bit.
 fn column_at(code: Code, message: u64, syndrome: u8, column: usize, top: bool) -> u8
     requires { ⌜ column < size (projection code) ⌝ }
-    ensures { λ r. ⌜ columnOf r ≡ columnWith (bit (messageBits (projection code) - 1) message) (valueAt (drop column (projection code .free)) (message / 2 ^ topBits (projection code)) syndrome) top ⌝ }
+    ensures { λ r. ⌜ columnOf r ≡ columnWith (bit (messageBits (projection code) - 1) message)
+        (valueAt (drop column (projection code .free)) (message / 2 ^ topBits (projection code)) syndrome) top ⌝ }
 {
     let parity = bit_of(message, code.message_bits() - 1);
     symbols::column_with(parity, value_at(code, message, syndrome, column), top)
