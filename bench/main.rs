@@ -83,8 +83,8 @@ fn compare_words(number: u64, code: &Code, random: &mut Random, count: u64) {
             _ => Err(4),
         };
         expect(&format!("code {number} reads {word:X}"), library::decode(number, word), read);
-        let mended: Result<Correction, u64> = if wide(word) || wide(marks) { Err(3) } else { code.correct(word, marks).ok_or(5) };
-        expect(&format!("code {number} mends {word:X} under {marks:X}"), library::correct(number, word, marks), mended);
+        let corrected: Result<Correction, u64> = if wide(word) || wide(marks) { Err(3) } else { code.correct(word, marks).ok_or(5) };
+        expect(&format!("code {number} mends {word:X} under {marks:X}"), library::correct(number, word, marks), corrected);
     }
 }
 

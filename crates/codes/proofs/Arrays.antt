@@ -1,7 +1,6 @@
 -- Words and tables in arrays: a column stored in front of those that are stored already, the table of scaled columns, and a table of a function.
 -- The columns of a number are its digits in base 16, stored from the last to the first, so one more is the next quotient's remainder. The
 -- scaled columns of the matrix stand four by four, in the order of the columns and of the symbols.
--- Assumes nothing.
 use mathlib.Core.Path.{_≡_, refl, sym, ap, ap₂, _∙_}
 use mathlib.Core.List.{List, [], _∷_, _++_, map}
 use Prim.Native.Nat.{ℕ, zero, suc, _+_, _*_, _/_, _%_, _^_, _≤_, _<_}
@@ -15,7 +14,7 @@ use Rattle.symbols.proofs.Numbers.{column-mod}
 use Rattle.codes.specs.Digits.{symbols, columns, digits, numberOf}
 use Rattle.codes.specs.Vector.{scale}
 use Rattle.codes.specs.Projection.{Projection, size}
-use Rattle.codes.specs.Walk.{scaled, scaledColumns}
+use Rattle.codes.specs.ContractsOfWalk.{scaled, scaledColumns}
 
 -- an array, from the place where an element was stored
 drop-set : (l : List ℕ) (j v : ℕ) → j < length l → drop j (set l j v) ≡ v ∷ drop (suc j) l
@@ -26,10 +25,10 @@ drop-set l j v h =
 pub unpack-step : (l : List ℕ) (j k n : ℕ) → j < length l → map columnOf (take k (drop (suc j) l)) ≡ digits columns k n →
     map columnOf (take (suc k) (drop j (set l j (n / 16 ^ k % 16)))) ≡ digits columns (suc k) n
 unpack-step l j k n h e =
-    ap (λ (x : List ℕ). map columnOf (take (suc k) x)) (drop-set l j (n / 16 ^ k % 16) h) ∙ ap₂ _∷_ (column-mod (n / 16 ^ k)) e
+    rw (drop-set l j (n / 16 ^ k % 16) h) (ap₂ _∷_ (column-mod (n / 16 ^ k)) e)
 
 pub next-quotient : (k n : ℕ) → n / 16 ^ k / 16 ≡ n / 16 ^ suc k
-next-quotient k n = div-div-eq-div-mul n (16 ^ k) 16 ∙ ap (λ (x : ℕ). n / x) (sym (pow-suc 16 k))
+next-quotient k n = rw (div-div-eq-div-mul n (16 ^ k) 16, pow-suc 16 k)
 
 -- the table of the matrix's columns times each symbol
 length-scaled : (H : List (List Symbol)) → length (scaled H) ≡ 4 * length H
@@ -49,7 +48,7 @@ scaled-entry (h ∷ hs) zero v hi hv = first v hv
     first (suc (suc (suc (suc v)))) l = absurd (omega arith)
 scaled-entry (h ∷ hs) (suc i) v hi hv =
     let next : 4 * suc i + v ≡ suc (suc (suc (suc (4 * i + v)))) = omega arith in
-    ap (λ (n : ℕ). getD (scaled (h ∷ hs)) n 0) next ∙ scaled-entry hs i v (omega arith) hv
+    rw next (scaled-entry hs i v (omega arith) hv)
 
 pub scaled-at : (π : Projection) → size π ≤ 10 → (i v : ℕ) → i < size π → v < 4 →
     getD (scaledColumns π) (4 * i + v) 0 ≡ numberOf symbols (scale (symbolOf v) (getD (π .matrix) i []))

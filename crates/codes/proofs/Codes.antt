@@ -1,8 +1,7 @@
--- The four codes: what a `match` tells of a code, the sizes that numbers have to fit, and what the theory asks of each code.
--- A `match` tells its arms by the codes' tags, 0 and 1 at 36 bits, 2 and 3 at 40. What is asked of a code is a test of its matrix, whatever
+-- The four codes: what a `match` says of a code, the sizes that numbers have to fit, and what the theory asks of each code.
+-- A `match` knows its arms by the codes' tags, 0 and 1 at 36 bits, 2 and 3 at 40. What is asked of a code is a test of its matrix, whatever
 -- the top rule, so each is computed once for nine columns and once for ten.
--- Assumes nothing.
-use mathlib.Core.Path.{_≡_, refl, sym, ap, _∙_, subst}
+use mathlib.Core.Path.{_≡_, refl, _∙_, subst}
 use mathlib.Core.List.{[], _∷_}
 use mathlib.Core.Logic.{⊎-elim}
 use Prim.Native.Nat.{ℕ, _^_, _≤_, _<_}
@@ -16,6 +15,7 @@ use Rattle.codes.specs.declared.code.Code.the-variants.{O36, E36, O40, E
 use Rattle.codes.specs.Projection.{Projection, TopRule, ruleO, ruleE, nine, ten, size, width, messageBits}
 use Rattle.codes.specs.Codes.{projection, codes}
 use Rattle.codes.proofs.code.Code.{the-type}
+use Rattle.codes.proofs.Arrays.{tabulated, table-at}
 use Rattle.codes.proofs.Placing.{Systematic}
 use Rattle.codes.proofs.Distance.{Apart, apart-by-length}
 
@@ -31,7 +31,14 @@ pub of-tags : (P : Code → Type 0) (i j : ℕ) → P (getD codes i O36) → P (
 of-tags P i j a b c k = ⊎-elim (λ e. subst P (there e) a) (λ e. subst P (there e) b) k
   where
     there : {n : ℕ} → tagOf the-type c ≡ n → getD codes n O36 ≡ c
-    there e = ap (λ (n : ℕ). getD codes n O36) (sym e) ∙ tagged c
+    there e = rw (← e) (tagged c)
+
+-- a table of f at ten columns, which is alike for two codes
+pub of-table : {A : Type 0} (f : Code → ℕ → A) (d : A) (i j n : ℕ) → n < 10 → f (getD codes i O36) n ≡ f (getD codes j O36) n →
+    (c : Code) → OneOf (i ∷ j ∷ []) (tagOf the-type c) → getD (tabulated 10 0 (f (getD codes i O36))) n d ≡ f c n
+of-table f d i j n h alike =
+    let e = table-at 10 (f (getD codes i O36)) d n h in
+    of-tags (λ c. getD (tabulated 10 0 (f (getD codes i O36))) n d ≡ f c n) i j e (e ∙ alike)
 
 -- what holds of both matrices, whatever the rule, holds of each code
 pub by-length : (P : Projection → Type 0) → ((r : TopRule) → P (nine r)) → ((r : TopRule) → P (ten r)) → (c : Code) → P (projection c)

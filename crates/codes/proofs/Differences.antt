@@ -3,8 +3,7 @@
 -- most k live values has that syndrome, the difference has more than k live columns: each has a one, and two where all columns are even.
 -- Of a syndrome other than zero that is so for k = 0, and for k = 1 if it has no entry in the table; an entry names a column and a value
 -- that make the syndrome. These are computed tests of all syndromes.
--- Assumes nothing.
-use mathlib.Core.Path.{_≡_, refl, sym, ap, ap₂, _∙_, subst}
+use mathlib.Core.Path.{_≡_, refl, sym, _∙_}
 use mathlib.Core.Bool.{Bool, true, false, not, _&&_, _||_}
 use mathlib.Core.List.{List, [], _∷_, map}
 use Prim.Native.Nat.{ℕ, zero, suc, _+_, _-_, _*_, _/_, _%_, _^_, _≤_, _<_}
@@ -19,7 +18,7 @@ use Rattle.codes.specs.Digits.{symbols, digits, numberOf}
 use Rattle.codes.specs.Vector.{addV, scale, isZeroV}
 use Rattle.codes.specs.Projection.{Projection, size}
 use Rattle.codes.specs.Word.{_⊞_, syndromeOf, allParity, weightOf, distance}
-use Rattle.codes.specs.Search.{entry, tableFrom, entryTable, lacks}
+use Rattle.codes.specs.ContractsOfSearch.{entry, tableFrom, entryTable, lacks}
 use Rattle.codes.proofs.Arrays.{tabulated, table-at}
 use Rattle.codes.proofs.Vectors.{addV-assoc, add-zero-vector, addV-self}
 use Rattle.codes.proofs.Words.{length-sum, syndrome-sum, parity-first, parity-rest, parity-cons, count-cons}
@@ -28,7 +27,7 @@ use Rattle.codes.proofs.Distance.{isLive, live, onlyZeros, only-zeros, 
 -- a column, and a word, differs from one that has the parity in at least as many positions as columns lack it
 lacks-weight : (p : Bool) (x y : Column) → parity y ≡ p → one (p ⊻ parity x) ≤ weight (x ⊕ y)
 lacks-weight p x y e =
-    subst (λ (q : Bool). one (q ⊻ parity x) ≤ weight (x ⊕ y)) e
+    rw (← e)
     (law-le (all-columns ⊗ all-columns) (λ (x, y). one (parity y ⊻ parity x)) (λ (x, y). weight (x ⊕ y)) tt (x, y))
 
 pub lacks-distance : (p : Bool) (f c : List Column) → length f ≡ length c → allParity p c ≡ true → lacks p f ≤ distance f c
@@ -84,8 +83,7 @@ module _ (π : Projection) (l : ℕ) (s : List Symbol) (test : T (onlyZeros (π 
       let a = syndromeOf π f in
       let b = syndromeOf π c in
       only-zeros (π .rows) (π .matrix) l s false test (map value (f ⊞ c)) (length-map (f ⊞ c) value ∙ length-sum f c e ∙ ef) h
-      (ap₂ (λ (x y : List Symbol). isZeroV (addV x y)) known (syndrome-sum π f c e)
-      ∙ ap isZeroV (sym (addV-assoc a a b)) ∙ add-zero-vector (addV a a) b no-syndrome ∙ addV-self a)
+      (rw (known, syndrome-sum π f c e, ← addV-assoc a a b) (add-zero-vector (addV a a) b no-syndrome ∙ addV-self a))
 
   pub none-close : distance f c ≤ l → ⊥
   none-close h = none-live (omega (arith, live-weight (f ⊞ c)))
@@ -118,7 +116,7 @@ pub record Named (π : Projection) (s e : ℕ) : Type 0 where
 
 -- of two tests, one of which passes everywhere, the second passes where the first fails
 tested : (n : ℕ) (f g : ℕ → Bool) → T (below n (λ s. f s || g s)) → (s : ℕ) → s < n → f s ≡ false → T (g s)
-tested n f g t s h e = subst (λ (b : Bool). T (b || g s)) e (at-below n (λ s. f s || g s) t s h)
+tested n f g t s h e = rw (e) at (at-below n (λ s. f s || g s) t s h)
 
 module _ (π : Projection) (tabled : Tabled π) (s : ℕ) (small : s < 4 ^ π .rows) where
   -- no choice without a live value, and none with at most one, has the syndrome
@@ -130,7 +128,7 @@ module _ (π : Projection) (tabled : Tabled π) (s : ℕ) (small : s < 4 ^ π .r
   pub more-than-one : (s ≡ 0 → ⊥) → entry π s ≡ 0 → T (onlyZeros (π .matrix) 1 (digits symbols (π .rows) s) false)
   more-than-one n e =
       tested (4 ^ π .rows) (λ s. eqb s 0 || not (eqb (entry π s) 0)) (λ s. onlyZeros (π .matrix) 1 (digits symbols (π .rows) s) false)
-      (tabled .unnamed) s small (ap₂ (λ (a b : Bool). a || not b) (ne-eqb s 0 n) (eq-eqb (entry π s) 0 e))
+      (tabled .unnamed) s small (rw (eq-eqb (entry π s) 0 e, ne-eqb s 0 n))
 
   pub entry-names : (entry π s ≡ 0 → ⊥) → Named π s (entry π s)
   entry-names n =
@@ -151,8 +149,8 @@ module _ (π : Projection) (tabled : Tabled π) (s : ℕ) (small : s < 4 ^ π .r
 -- the table of entries holds them in order
 table-tabulated : (n k : ℕ) (f : ℕ → ℕ) → tableFrom n k f ≡ tabulated n k f
 table-tabulated zero k f = refl
-table-tabulated (suc n) k f = ap (λ (l : List ℕ). f k ∷ l) (table-tabulated n (suc k) f)
+table-tabulated (suc n) k f = rw (table-tabulated n (suc k) f)
 
 pub entry-at : (π : Projection) (l : List ℕ) (s : ℕ) → l ≡ entryTable π → s < 256 → getD l s 0 ≡ entry π s
 unfolding entryTable
-entry-at π l s e h = ap (λ (l : List ℕ). getD l s 0) (e ∙ table-tabulated 256 0 (entry π)) ∙ table-at 256 (entry π) 0 s h
+entry-at π l s e h = rw (e ∙ table-tabulated 256 0 (entry π)) (table-at 256 (entry π) 0 s h)

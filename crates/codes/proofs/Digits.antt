@@ -1,18 +1,17 @@
 -- Numbers and their digits: there and back, for bits, symbols and columns at once.
 -- A number modulo b^(k+1) is its digit k times b^k plus the number modulo b^k; all laws of digits follow from that by induction on k.
 -- Below them stand laws of powers and shifts.
--- Assumes nothing.
-use mathlib.Core.Path.{_≡_, refl, sym, ap, ap₂, _∙_, subst}
+use mathlib.Core.Path.{_≡_, refl, sym, ap, ap₂, _∙_}
 use mathlib.Core.Bool.{Bool-discrete}
 use mathlib.Core.List.{List, [], _∷_}
 use Prim.Native.Nat.{ℕ, zero, suc, _+_, _*_, _/_, _%_, _^_, _<_}
 use native.Mathlib.Nat.{div-one, mod-lt, mod-eq-of-lt, mod-one, mul-zero, mul-suc, one-le-pow, one-mul, pow-zero, pow-suc, pow-succ'}
 use native.Mathlib.Omega.{arith}
 use lib.Arith.{digits-lt, digits-div, digits-mod, mod-mul}
-use lib.Dec.{eqb, lit<}
+use lib.Dec.{lit<}
 use lib.ListN.{length}
 use lib.Pow.{pow-add, shl-exact, shr-shr}
-use Rattle.symbols.specs.Symbol.{bit}
+use Rattle.symbols.specs.Symbol.{hasBit}
 use Rattle.symbols.specs.Column.{one}
 use Rattle.symbols.proofs.Every.{bits as all-bits, law, law-below, number-discrete}
 use Rattle.symbols.proofs.Columns.{one-le}
@@ -42,8 +41,8 @@ below-base d pos small back there modulo =
 
 pub bits-fit : Fit bits
 bits-fit =
-    below-base bits (lit< tt) (λ x. omega (arith, one-le x)) (law all-bits Bool-discrete (λ x. bit 0 (one x)) (λ x. x) tt)
-    (law-below 2 number-discrete (λ n. one (bit 0 n)) (λ n. n) tt) (bit-mod 0 0)
+    below-base bits (lit< tt) (λ x. omega (arith, one-le x)) (law all-bits Bool-discrete (λ x. hasBit 0 (one x)) (λ x. x) tt)
+    (law-below 2 number-discrete (λ n. one (hasBit 0 n)) (λ n. n) tt) (bit-mod 0 0)
 
 pub symbols-fit : Fit symbols
 symbols-fit = below-base symbols (lit< tt) symbol-number-lt symbol-of-number number-of-symbol symbol-mod
@@ -62,15 +61,13 @@ module _ {A : Type 0} (d : Digit A) (fit : Fit d) where
 
   -- a number's lowest k + 1 digits are digit k and the lowest k
   high-digit : (k n : ℕ) → n % d .base ^ suc k ≡ (n / d .base ^ k % d .base) * d .base ^ k + n % d .base ^ k
-  high-digit k n = ap (λ (b : ℕ). n % b) (pow-succ' (d .base) k) ∙ mod-mul n (fit .pos) (place-pos k)
+  high-digit k n = rw (pow-succ' (d .base) k) (mod-mul n (fit .pos) (place-pos k))
 
   -- the number of a number's lowest digits
   pub number-digits : (k n : ℕ) → numberOf d (digits d k n) ≡ n % d .base ^ k
   number-digits zero n = sym (rw pow-zero (mod-one n))
   number-digits (suc k) n =
-      ap₂ (λ (l x : ℕ). d .number (d .lowest (n / d .base ^ k)) * d .base ^ l + x) (length-digits d k n) (number-digits k n)
-      ∙ ap (λ (x : ℕ). x * d .base ^ k + n % d .base ^ k) (fit .there (n / d .base ^ k))
-      ∙ sym (high-digit k n)
+      rw (length-digits d k n, number-digits k n, fit .there (n / d .base ^ k), high-digit k n)
 
   pub number-lt : (xs : List A) → numberOf d xs < d .base ^ length xs
   number-lt [] = rw pow-zero (lit< tt)
@@ -82,11 +79,9 @@ module _ {A : Type 0} (d : Digit A) (fit : Fit d) where
   digits-remainder (suc k) n =
       let q = n / d .base ^ k % d .base in
       let small = mod-lt n (place-pos k) in
-      let e = high-digit k n in
       ap₂ _∷_
-      (ap (d .lowest) (ap (λ (x : ℕ). x / d .base ^ k) e ∙ digits-div q small) ∙ fit .modulo (n / d .base ^ k))
-      (sym (digits-remainder k (n % d .base ^ suc k))
-      ∙ ap (digits d k) (ap (λ (x : ℕ). x % d .base ^ k) e ∙ digits-mod q small) ∙ digits-remainder k n)
+      (rw (high-digit k n, digits-div q small) (fit .modulo (n / d .base ^ k)))
+      (rw (← digits-remainder k (n % d .base ^ suc k), high-digit k n, digits-mod q small) (digits-remainder k n))
 
   -- a list of digits is its number's
   digits-number : (xs : List A) → digits d (length xs) (numberOf d xs) ≡ xs
@@ -94,31 +89,27 @@ module _ {A : Type 0} (d : Digit A) (fit : Fit d) where
   digits-number (x ∷ xs) =
       let small = number-lt xs in
       ap₂ _∷_
-      (ap (d .lowest) (digits-div (d .number x) small) ∙ fit .back x)
-      (sym (digits-remainder (length xs) (numberOf d (x ∷ xs)))
-      ∙ ap (digits d (length xs)) (digits-mod (d .number x) small) ∙ digits-number xs)
+      (rw (digits-div (d .number x) small) (fit .back x))
+      (rw (← digits-remainder (length xs) (numberOf d (x ∷ xs)), digits-mod (d .number x) small) (digits-number xs))
 
   pub digits-again : (k : ℕ) (xs : List A) → length xs ≡ k → digits d k (numberOf d xs) ≡ xs
-  digits-again k xs e = subst (λ (j : ℕ). digits d j (numberOf d xs) ≡ xs) e (digits-number xs)
+  digits-again k xs e = rw (← e) (digits-number xs)
 
   pub number-again : (k n : ℕ) → n < d .base ^ k → numberOf d (digits d k n) ≡ n
   number-again k n h = number-digits k n ∙ mod-eq-of-lt h
 
 -- a power of a power
 pub pow-mul : (a m n : ℕ) → (a ^ m) ^ n ≡ a ^ (m * n)
-pow-mul a m zero = pow-zero (a ^ m) ∙ sym (ap (λ (x : ℕ). a ^ x) (mul-zero m) ∙ pow-zero a)
-pow-mul a m (suc n) =
-    pow-suc (a ^ m) n
-    ∙ ap (λ (x : ℕ). x * a ^ m) (pow-mul a m n)
-    ∙ sym (ap (λ (x : ℕ). a ^ x) (mul-suc m n) ∙ pow-add a (m * n) m)
+pow-mul a m zero = rw (pow-zero (a ^ m), mul-zero m, pow-zero a)
+pow-mul a m (suc n) = rw (pow-suc (a ^ m) n, pow-mul a m n, mul-suc m n, pow-add a (m * n) m)
 
 -- two shifts are one
 pub shift-shift : (n k f : ℕ) → n / 2 ^ k / 4 ^ f ≡ n / 2 ^ (k + 2 * f)
-shift-shift n k f = ap (λ (x : ℕ). n / 2 ^ k / x) (pow-mul 2 2 f) ∙ shr-shr n k (2 * f)
+shift-shift n k f = rw (pow-mul 2 2 f) (shr-shr n k (2 * f))
 
 -- a bit is the lowest of a quotient
-pub bit-at : (k n : ℕ) → bit 0 (n / 2 ^ k) ≡ bit k n
-bit-at k n = ap (λ (x : ℕ). eqb (x % 2) 1) (div-one (n / 2 ^ k))
+pub bit-at : (k n : ℕ) → hasBit 0 (n / 2 ^ k) ≡ hasBit k n
+bit-at k n = rw (div-one (n / 2 ^ k))
 
 -- a shift of 1 by fewer than 64 places is a power of two
 pub power-fits : (k : ℕ) → k < 64 → (1 * 2 ^ k) % 2 ^ 64 ≡ 2 ^ k

@@ -2,7 +2,7 @@
 -- Their sum is a codeword. Where its columns are odd, each has a one, so eight columns make eight ones. Where they are even, a column
 -- whose value isn't 0 has two ones. So four such columns make eight ones; and with fewer all values are 0, since no three columns of the
 -- matrix are dependent. Then each column is empty or full, and the top rule shuts out exactly one full column.
--- Of the code this takes a computed test of its matrix, and that odd codewords have eight ones (`Apart`). Assumes nothing else.
+-- Of the code this takes a computed test of its matrix, and that odd codewords have eight ones (`Apart`).
 use mathlib.Core.Path.{_≡_, refl, sym, ap, ap₂, _∙_, subst}
 use mathlib.Core.Bool.{Bool, true, false, not, _&&_, _||_, Bool-discrete, and-eq-true-iff, and-true, and-assoc}
 use mathlib.Core.List.{List, [], _∷_, map}
@@ -54,7 +54,7 @@ only-zeros r (h ∷ H) k s z f (v ∷ vs) e l i =
     (symbols .at (λ v. not (leb (isLive v) k) || onlyZeros H (k - isLive v) (addV s (scale v h)) (z && isZero v)) f v)
     (le-leb (isLive v) k (omega arith)))
     vs (omega arith) (omega arith)
-    (ap isZeroV (addV-assoc s (scale v h) (syndrome r H vs)) ∙ i))
+    (rw (addV-assoc s (scale v h) (syndrome r H vs)) i))
 
 -- the ones of a word whose columns all have one parity: at least two for each live column of an even word; four for each top bit
 -- of an even word with no live column; at least one for each column of an odd word
@@ -63,8 +63,8 @@ even-word-weight [] e = omega arith
 even-word-weight (c ∷ cs) e = go (isZero (value c)) refl (even-word-weight cs (parity-rest false c cs e))
   where
     go : (b : Bool) → isZero (value c) ≡ b → 2 * live (map value cs) ≤ weightOf cs → 2 * live (map value (c ∷ cs)) ≤ weightOf (c ∷ cs)
-    go true z h = omega (arith, ap (λ (b : Bool). one (not b)) z)
-    go false z h = omega (arith, ap (λ (b : Bool). one (not b)) z, even-weight c (parity-first false c cs e) z)
+    go true z h = rw z (omega arith)
+    go false z h = rw z (omega (arith, even-weight c (parity-first false c cs e) z))
 
 flat-word-weight : (cs : List Column) → allParity false cs ≡ true → isZeroV (map value cs) ≡ true → weightOf cs ≡ 4 * count (map top cs)
 flat-word-weight [] e z = refl
@@ -77,7 +77,7 @@ odd-word-weight : (cs : List Column) → allParity true cs ≡ true → length c
 odd-word-weight [] e = omega arith
 odd-word-weight (c ∷ cs) e = omega (arith, odd-weight c (parity-first true c cs e), odd-word-weight cs (parity-rest true c cs e))
 
--- where the top row has at most one one, its parity tells whether it has one
+-- where the top row has at most one one, its parity says whether it has one
 few-step : (t r : Bool) (l : List Bool) → (count l ≤ 1 → one r ≡ count l) → count (t ∷ l) ≤ 1 → one (t ⊻ r) ≡ count (t ∷ l)
 few-step false r l f h = f h
 few-step true true l f h = absurd (omega (arith, f (omega arith)))

@@ -2,21 +2,20 @@
 -- The value of the next column is a digit of the message or of the syndrome, by the number of columns of its kind behind it, and its top
 -- bit is the next of the message's; the last top bit is what the top row's parity still wants.
 -- Where the columns that are not free have the value 0, the word's syndrome is what they must have for it to be a codeword.
--- Assumes nothing.
-use mathlib.Core.Path.{_≡_, refl, sym, ap, ap₂, _∙_, subst}
+use mathlib.Core.Path.{_≡_, refl, ap, _∙_}
 use mathlib.Core.Bool.{Bool, true, false, not}
 use mathlib.Core.List.{List, [], _∷_, _++_, map, map-append}
 use Prim.Native.Nat.{ℕ, suc, _+_, _-_, _*_, _/_, _^_, _<_}
 use native.Mathlib.Omega.{arith}
 use lib.ListN.{length, getD, take, drop, set, length-drop, drop-of-length-le}
 use lib.Seq.{drop-cons, take-suc-set}
-use Rattle.symbols.specs.Symbol.{_⊻_, Symbol, bit}
+use Rattle.symbols.specs.Symbol.{_⊻_, Symbol, hasBit}
 use Rattle.symbols.specs.Column.{Column, value, columnOf, columnWith}
 use Rattle.codes.specs.Digits.{bits, symbols, digits}
 use Rattle.codes.specs.Projection.{Projection, wanted, count, topBits, messageBits}
-use Rattle.codes.specs.Word.{syndrome, syndromeOf}
+use Rattle.codes.specs.Word.{syndromeOf}
 use Rattle.codes.specs.Message.{messageOf, place, allTops, columnsWith, codewordOf}
-use Rattle.codes.specs.Walk.{valueAt, drafted}
+use Rattle.codes.specs.ContractsOfWalk.{valueAt, drafted}
 use Rattle.codes.proofs.Digits.{length-digits, bit-at}
 use Rattle.codes.proofs.Placing.{Systematic, length-place, place-zeros}
 use Rattle.codes.proofs.Encoding.{with-values, length-tops}
@@ -42,18 +41,17 @@ values-cons false l x s = refl
 -- column i, by whether it is free, and the values from it on
 module _ (l : List Bool) (i : ℕ) (h : i < length l) where
   pub value-from : (x s : ℕ) {b : Bool} → getD l i false ≡ b → valueAt (drop i l) x s ≡ valueAt (b ∷ drop (suc i) l) x s
-  value-from x s e = ap (λ (k : List Bool). valueAt k x s) (drop-cons l i false h ∙ ap (λ (b : Bool). b ∷ drop (suc i) l) e)
+  value-from x s e = rw (drop-cons l i false, e)
 
   values-from : (x s : ℕ) → valuesOf (drop i l) x s ≡ valueAt (drop i l) x s ∷ valuesOf (drop (suc i) l) x s
   values-from x s =
-      subst (λ (k : List Bool). valuesOf k x s ≡ valueAt k x s ∷ valuesOf (drop (suc i) l) x s) (sym (drop-cons l i false h))
-      (values-cons (getD l i false) (drop (suc i) l) x s)
+      rw (drop-cons l i false) (values-cons (getD l i false) (drop (suc i) l) x s)
 
 -- p is a message's highest bit
-pub parity-bit : (π : Projection) (n : ℕ) → bit (messageBits π - 1) n ≡ messageOf π n .parity
+pub parity-bit : (π : Projection) (n : ℕ) → hasBit (messageBits π - 1) n ≡ messageOf π n .parity
 parity-bit π n =
     let e : messageBits π - 1 ≡ 2 * count (π .free) + topBits π = omega arith in
-    ap (λ (k : ℕ). bit k n) e
+    rw e
 
 -- one column more is stored
 pub stored-more : (a : List ℕ) (i v : ℕ) → i < length a →
@@ -78,26 +76,22 @@ module _ (π : Projection) (sys : Systematic π) (n s : ℕ) where
   pub draft-all : draftFrom π n s 0 (wanted (π .rule) (messageOf π n .parity)) ≡ drafted π n s
   draft-all =
       let whole : topBits π - 0 ≡ topBits π = omega arith in
-      ap₂ (λ (k j : ℕ). columnsWith p (place (π .free) (messageOf π n .values) (digits symbols k s)) (allTops (wanted (π .rule) p) (digits bits j n)))
-      (sys .others) whole
+      rw (sys .others, whole)
 
   pub draft-next : (i : ℕ) (t : Bool) → i < topBits π →
-      draftFrom π n s i t ≡ draftAt π n s i (bit (topBits π - 1 - i) n) ∷ draftFrom π n s (suc i) (bit (topBits π - 1 - i) n ⊻ t)
+      draftFrom π n s i t ≡ draftAt π n s i (hasBit (topBits π - 1 - i) n) ∷ draftFrom π n s (suc i) (hasBit (topBits π - 1 - i) n ⊻ t)
   draft-next i t h =
       let k = topBits π - 1 - i in
       let more : topBits π - i ≡ suc k = omega arith in
       let rest : k ≡ topBits π - suc i = omega arith in
-      ap₂ (λ (vs : List Symbol) (j : ℕ). columnsWith p vs (allTops t (digits bits j n))) (values-from (π .free) i (omega (arith, sys .flags)) x s) more
-      ∙ ap₂ (λ (b : Bool) (j : ℕ). draftAt π n s i b ∷ columnsWith p (valuesOf (drop (suc i) (π .free)) x s) (allTops (b ⊻ t) (digits bits j n)))
-      (bit-at k n) rest
+      rw (values-from (π .free) i (omega (arith, sys .flags)) x s, more, bit-at k n, rest)
 
   pub draft-last : (t : Bool) → draftFrom π n s (topBits π) t ≡ draftAt π n s (topBits π) t ∷ []
   draft-last t =
       let none : topBits π - topBits π ≡ 0 = omega arith in
       let inside : topBits π < length (π .free) = omega (arith, sys .flags, sys .some) in
       let end : drop (suc (topBits π)) (π .free) ≡ [] = drop-of-length-le (π .free) {i = suc (topBits π)} (omega (arith, sys .flags)) in
-      ap₂ (λ (vs : List Symbol) (j : ℕ). columnsWith p vs (allTops t (digits bits j n))) (values-from (π .free) (topBits π) inside x s) none
-      ∙ ap (λ (l : List Bool). draftAt π n s (topBits π) t ∷ columnsWith p (valuesOf l x s) []) end
+      rw (values-from (π .free) (topBits π) inside x s, none, end)
 
   -- with no syndrome the others are 0; with the syndrome that this has, the columns are the codeword's
   draft-values : map value (drafted π n 0) ≡ place (π .free) (messageOf π n .values) []
@@ -113,5 +107,4 @@ module _ (π : Projection) (sys : Systematic π) (n s : ℕ) where
   pub draft-codeword : digits symbols (π .rows) s ≡ syndromeOf π (drafted π n 0) → drafted π n s ≡ codewordOf π (messageOf π n)
   draft-codeword e =
       let m = messageOf π n in
-      ap (λ (ds : List Symbol). columnsWith p (place (π .free) (m .values) ds) (allTops (wanted (π .rule) p) (m .tops)))
-      (e ∙ ap (syndrome (π .rows) (π .matrix)) draft-values)
+      rw (e, draft-values)

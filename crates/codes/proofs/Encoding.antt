@@ -1,7 +1,6 @@
 -- Messages and codewords: a message's columns are a codeword and say the message again, and a codeword is that of its own message.
 -- A column is fixed by parity, value and top bit, so a word of one parity is fixed by its values and top bits. The values of a codeword are
 -- fixed by the free ones, its top bits by all but the last: these and the parity are the message.
--- Assumes nothing.
 use mathlib.Core.Path.{_≡_, refl, sym, ap, ap₂, _∙_}
 use mathlib.Core.Bool.{Bool, true, false}
 use mathlib.Core.List.{List, [], _∷_, map}
@@ -12,9 +11,8 @@ use Rattle.symbols.specs.Symbol.{_⊻_, Symbol}
 use Rattle.symbols.specs.Column.{Column, value, parity, top, columnWith}
 use Rattle.symbols.proofs.Symbols.{xor-false, xor-twice}
 use Rattle.symbols.proofs.Columns.{with-of, parity-with, value-with, top-with}
-use Rattle.codes.specs.Vector.{isZeroV}
 use Rattle.codes.specs.Projection.{Projection, wanted, count, size, topBits}
-use Rattle.codes.specs.Word.{syndrome, allParity, topRow}
+use Rattle.codes.specs.Word.{allParity, topRow}
 use Rattle.codes.specs.Message.{Message, allValues, allTops, columnsWith, codewordOf, chosen, firstParity, butLast, messageIn}
 use Rattle.codes.proofs.Words.{Codeword, parity-first, parity-rest, parity-cons}
 use Rattle.codes.proofs.Placing.{Systematic, length-values, values-zero, chosen-values, values-chosen, length-chosen}
@@ -44,7 +42,7 @@ with-tops p (v ∷ vs) (t ∷ ts) e = ap₂ _∷_ (top-with p v t) (with-tops p 
 columns-with : (p : Bool) (cs : List Column) → allParity p cs ≡ true → columnsWith p (map value cs) (map top cs) ≡ cs
 columns-with p [] e = refl
 columns-with p (c ∷ cs) e =
-    ap₂ _∷_ (ap (λ (q : Bool). columnWith q (value c) (top c)) (sym (parity-first p c cs e)) ∙ with-of c) (columns-with p cs (parity-rest p c cs e))
+    ap₂ _∷_ (rw (← parity-first p c cs e) (with-of c)) (columns-with p cs (parity-rest p c cs e))
 
 -- the top row's parity is the sum of the top bits, so the last one is fixed by the others
 xors : List Bool → Bool
@@ -54,7 +52,7 @@ xors (b ∷ bs) = b ⊻ xors bs
 topRow-xors : (cs : List Column) → topRow cs ≡ xors (map top cs)
 unfolding xors
 topRow-xors [] = refl
-topRow-xors (c ∷ cs) = ap (λ (b : Bool). top c ⊻ b) (topRow-xors cs)
+topRow-xors (c ∷ cs) = rw (topRow-xors cs)
 
 pub length-tops : (t : Bool) (bs : List Bool) → length (allTops t bs) ≡ suc (length bs)
 length-tops t [] = refl
@@ -63,19 +61,19 @@ length-tops t (b ∷ bs) = ap suc (length-tops (b ⊻ t) bs)
 xor-tops : (t : Bool) (bs : List Bool) → xors (allTops t bs) ≡ t
 unfolding xors
 xor-tops t [] = xor-false t
-xor-tops t (b ∷ bs) = ap (λ (x : Bool). b ⊻ x) (xor-tops (b ⊻ t) bs) ∙ xor-twice b t
+xor-tops t (b ∷ bs) = rw (xor-tops (b ⊻ t) bs) (xor-twice b t)
 
 but-last-tops : (t : Bool) (bs : List Bool) → butLast (allTops t bs) ≡ bs
 but-last-tops t [] = refl
 but-last-tops t (b ∷ []) = refl
-but-last-tops t (b ∷ (c ∷ bs)) = ap (λ (x : List Bool). b ∷ x) (but-last-tops (b ⊻ t) (c ∷ bs))
+but-last-tops t (b ∷ (c ∷ bs)) = rw (but-last-tops (b ⊻ t) (c ∷ bs))
 
 tops-but-last : (t : Bool) (bs : List Bool) → 0 < length bs → t ≡ xors bs → allTops t (butLast bs) ≡ bs
 unfolding xors
 tops-but-last t [] h e = absurd (omega arith)
-tops-but-last t (b ∷ []) h e = ap (λ (x : Bool). x ∷ []) (e ∙ xor-false b)
+tops-but-last t (b ∷ []) h e = rw (e, xor-false b)
 tops-but-last t (b ∷ (c ∷ bs)) h e =
-    ap (λ (x : List Bool). b ∷ x) (tops-but-last (b ⊻ t) (c ∷ bs) (omega arith) (ap (λ (x : Bool). b ⊻ x) e ∙ xor-twice b (c ⊻ xors bs)))
+    rw (tops-but-last (b ⊻ t) (c ∷ bs) (omega arith) (rw e (xor-twice b (c ⊻ xors bs))))
 
 pub length-but-last : (bs : List Bool) → length (butLast bs) ≡ length bs - 1
 length-but-last [] = refl
@@ -114,9 +112,9 @@ module _ (π : Projection) (sys : Systematic π) where
     pub message-codeword : Codeword π (m .parity) (codewordOf π m)
     message-codeword =
         record {
-          zero = ap (λ (vs : List Symbol). isZeroV (syndrome (π .rows) (π .matrix) vs)) values-of ∙ values-zero π sys (m .values);
+          zero = rw values-of (values-zero π sys (m .values));
           parities = with-parity (m .parity) (allValues π (m .values)) tops;
-          tops = topRow-xors (codewordOf π m) ∙ ap xors tops-of ∙ xor-tops (wanted (π .rule) (m .parity)) (m .tops);
+          tops = rw (topRow-xors (codewordOf π m), tops-of) (xor-tops (wanted (π .rule) (m .parity)) (m .tops));
         }
 
     -- and they say the message again
@@ -125,7 +123,7 @@ module _ (π : Projection) (sys : Systematic π) where
         let ep = first-parity (m .parity) (codewordOf π m) (omega (arith, length-codeword, sys .some)) (message-codeword .parities) in
         let ev = ap (chosen (π .free)) values-of ∙ chosen-values π sys (m .values) (fit .values) in
         let et = ap butLast tops-of ∙ but-last-tops (wanted (π .rule) (m .parity)) (m .tops) in
-        λ i. record { parity = ep i; values = ev i; tops = et i }
+        rw (ep, ev, et)
 
   -- what a word says of its message has the right sizes
   pub sized : (cs : List Column) → length cs ≡ size π → Sized π (messageIn π cs)
@@ -139,8 +137,8 @@ module _ (π : Projection) (sys : Systematic π) where
   pub codeword-of-message : (p : Bool) (cs : List Column) → length cs ≡ size π → Codeword π p cs → codewordOf π (messageIn π cs) ≡ cs
   codeword-of-message p cs long is =
       let ep = first-parity p cs (omega (arith, sys .some)) (is .parities) in
-      ap (λ (q : Bool). columnsWith q (allValues π (messageIn π cs .values)) (allTops (wanted (π .rule) q) (messageIn π cs .tops))) ep
-      ∙ ap₂ (columnsWith p)
+      rw ep
+      (ap₂ (columnsWith p)
       (values-chosen π sys (map value cs) (length-map cs value ∙ long) (is .zero))
       (tops-but-last (wanted (π .rule) p) (map top cs) (omega (arith, length-map cs top, sys .some)) (sym (is .tops) ∙ topRow-xors cs))
-      ∙ columns-with p cs (is .parities)
+      ∙ columns-with p cs (is .parities))

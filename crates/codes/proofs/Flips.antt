@@ -2,8 +2,7 @@
 -- Only that column changes, so each is a law of columns at that place. Where a word and another differ in the parity of a column, the
 -- column differs in an odd number of rows, so in one at least: with that row inverted the words are one position nearer. As a number, the
 -- inverted bits are shifted to the column's place and added by exclusive or.
--- Assumes nothing.
-use mathlib.Core.Path.{_≡_, refl, sym, ap, ap₂, _∙_, subst}
+use mathlib.Core.Path.{_≡_, refl, sym, ap, ap₂, _∙_}
 use mathlib.Core.Bool.{Bool, true, false, Bool-discrete}
 use mathlib.Core.List.{List, [], _∷_, map}
 use Prim.Native.Nat.{ℕ, zero, suc, _+_, _-_, _*_, _/_, _^_, _≤_, _<_}
@@ -22,7 +21,7 @@ use Rattle.codes.specs.Digits.{columns, digits}
 use Rattle.codes.specs.Vector.{addV, scale}
 use Rattle.codes.specs.Projection.{Projection, size, width}
 use Rattle.codes.specs.Word.{word, _⊞_, syndrome, allParity, topRow, distance}
-use Rattle.codes.specs.Search.{inverted, lacks}
+use Rattle.codes.specs.ContractsOfSearch.{inverted, lacks}
 use Rattle.codes.proofs.Vectors.{addV-assoc, addV-comm, scale-add}
 use Rattle.codes.proofs.Digits.{columns-fit, place-pos, digits-remainder, pow-mul}
 use Rattle.codes.proofs.Words.{length-word, parity-first, parity-rest, parity-cons, count-cons}
@@ -41,7 +40,7 @@ invert (suc j) q (c ∷ cs) = c ∷ invert j q cs
 pub take-invert : (j : ℕ) (q : Column) (f : List Column) → take j (invert j q f) ≡ take j f
 take-invert j q [] = refl
 take-invert zero q (c ∷ cs) = refl
-take-invert (suc j) q (c ∷ cs) = ap (λ (l : List Column). c ∷ l) (take-invert j q cs)
+take-invert (suc j) q (c ∷ cs) = rw (take-invert j q cs)
 
 pub syndrome-invert : (r : ℕ) (H : List (List Symbol)) (j : ℕ) (q : Column) (f : List Column) → length f ≡ length H → j < length f →
     syndrome r H (map value (invert j q f)) ≡ addV (syndrome r H (map value f)) (scale (value q) (getD H j []))
@@ -51,17 +50,15 @@ syndrome-invert r (x ∷ H) zero q (c ∷ cs) e h =
     let a = scale (value c) x in
     let b = scale (value q) x in
     let rest = syndrome r H (map value cs) in
-    ap (λ (l : List Symbol). addV l rest) (ap (λ (v : Symbol). scale v x) (value-add c q) ∙ scale-add (value c) (value q) x)
-    ∙ addV-assoc a b rest ∙ ap (addV a) (addV-comm b rest) ∙ sym (addV-assoc a rest b)
+    rw (value-add c q, scale-add (value c) (value q) x) (addV-assoc a b rest ∙ ap (addV a) (addV-comm b rest) ∙ sym (addV-assoc a rest b))
 syndrome-invert r (x ∷ H) (suc j) q (c ∷ cs) e h =
     ap (addV (scale (value c) x)) (syndrome-invert r H j q cs (omega arith) (omega arith))
     ∙ sym (addV-assoc (scale (value c) x) (syndrome r H (map value cs)) (scale (value q) (getD H j [])))
 
 pub topRow-invert : (j : ℕ) (q : Column) (f : List Column) → j < length f → topRow (invert j q f) ≡ topRow f ⊻ top q
 topRow-invert j q [] h = absurd (omega arith)
-topRow-invert zero q (c ∷ cs) h = ap (λ (b : Bool). b ⊻ topRow cs) (top-add c q) ∙ xor-last (top c) (top q) (topRow cs)
-topRow-invert (suc j) q (c ∷ cs) h =
-    ap (λ (b : Bool). top c ⊻ b) (topRow-invert j q cs (omega arith)) ∙ sym (xor-assoc (top c) (topRow cs) (top q))
+topRow-invert zero q (c ∷ cs) h = rw (top-add c q) (xor-last (top c) (top q) (topRow cs))
+topRow-invert (suc j) q (c ∷ cs) h = rw (topRow-invert j q cs (omega arith), xor-assoc (top c) (topRow cs) (top q))
 
 -- an even number of bits inverted keeps every column's parity
 pub parity-invert : (p : Bool) (j : ℕ) (q : Column) (f : List Column) → parity q ≡ false →
@@ -69,7 +66,7 @@ pub parity-invert : (p : Bool) (j : ℕ) (q : Column) (f : List Column) → pari
 parity-invert p j q [] e t = refl
 parity-invert p zero q (c ∷ cs) e t =
     parity-cons p (c ⊕ q) cs
-    (parity-add c q ∙ ap (λ (b : Bool). parity c ⊻ b) e ∙ xor-comm (parity c) false ∙ parity-first p c cs t) (parity-rest p c cs t)
+    (rw (parity-add c q, e) (xor-comm (parity c) false ∙ parity-first p c cs t)) (parity-rest p c cs t)
 parity-invert p (suc j) q (c ∷ cs) e t =
     parity-cons p c (invert j q cs) (parity-first p c cs t) (parity-invert p j q cs e (parity-rest p c cs t))
 
@@ -79,10 +76,8 @@ pub lacks-invert : (p : Bool) (j : ℕ) (q : Column) (f : List Column) → j < l
 lacks-invert p j q [] h e t = absurd (omega arith)
 lacks-invert p zero q (c ∷ cs) h e t =
     let l = map (λ c. p ⊻ parity c) cs in
-    let turned : p ⊻ parity (c ⊕ q) ≡ false =
-    ap (λ (b : Bool). p ⊻ b) (parity-add c q ∙ ap (λ (b : Bool). parity c ⊻ b) e)
-    ∙ sym (xor-assoc p (parity c) true) ∙ ap (λ (b : Bool). b ⊻ true) t in
-    omega (arith, count-cons (p ⊻ parity c) l, count-cons (p ⊻ parity (c ⊕ q)) l, ap one t, ap one turned)
+    let has : p ⊻ parity (c ⊕ q) ≡ false = rw (parity-add c q, e, ← xor-assoc p (parity c) true, t) in
+    omega (arith, count-cons (p ⊻ parity c) l, count-cons (p ⊻ parity (c ⊕ q)) l, ap one t, ap one has)
 lacks-invert p (suc j) q (c ∷ cs) h e t =
     omega (
       arith,
@@ -144,7 +139,7 @@ sum-blank c = law all-columns (Column-discrete Bool-discrete) (λ c. c ⊕ blank
 sum-zero : (k : ℕ) (f : List Column) → length f ≡ k → f ⊞ digits columns k 0 ≡ f
 sum-zero k [] e = refl
 sum-zero zero (c ∷ cs) e = absurd (omega arith)
-sum-zero (suc k) (c ∷ cs) e = ap₂ _∷_ (ap (λ (n : ℕ). c ⊕ columnOf n) (zero-div (16 ^ k)) ∙ sum-blank c) (sum-zero k cs (omega arith))
+sum-zero (suc k) (c ∷ cs) e = ap₂ _∷_ (rw (zero-div (16 ^ k)) (sum-blank c)) (sum-zero k cs (omega arith))
 
 -- i columns stand behind column j
 sum-shifted : (k j i q : ℕ) (f : List Column) → length f ≡ k → i + suc j ≡ k → q < 16 → f ⊞ digits columns k (q * 16 ^ i) ≡ invert j (columnOf q) f
@@ -152,22 +147,17 @@ sum-shifted k j i q [] e h l = refl
 sum-shifted zero j i q (c ∷ cs) e h l = absurd (omega arith)
 sum-shifted (suc k) zero i q (c ∷ cs) e h l =
     let here : i ≡ k = omega arith in
-    subst (λ (n : ℕ). (c ∷ cs) ⊞ digits columns (suc k) (q * 16 ^ n) ≡ invert 0 (columnOf q) (c ∷ cs)) (sym here)
-    (ap₂ _∷_ (ap (λ (n : ℕ). c ⊕ columnOf n) (mul-div-cancel q (place-pos columns columns-fit k)))
-    (ap (λ (l : List Column). cs ⊞ l) (sym (digits-remainder columns columns-fit k (q * 16 ^ k)) ∙ ap (digits columns k) (mul-mod-left q (16 ^ k)))
-    ∙ sum-zero k cs (omega arith)))
+    let none : digits columns k (q * 16 ^ k) ≡ digits columns k 0 = rw (← digits-remainder columns columns-fit k (q * 16 ^ k), mul-mod-left q (16 ^ k)) in
+    rw here (ap₂ _∷_ (rw (mul-div-cancel q (place-pos columns columns-fit k))) (rw none (sum-zero k cs (omega arith))))
 sum-shifted (suc k) (suc j) i q (c ∷ cs) e h l =
-    let small : q * 16 ^ i < 16 ^ k =
-    lt-of-lt-of-le (subst (λ (n : ℕ). q * 16 ^ i < n) (sym (pow-succ' 16 i)) (mul-lt-mul-of-pos-right l (place-pos columns columns-fit i)))
-    (pow-le-pow-right (lit< tt) (omega arith)) in
-    ap₂ _∷_ (ap (λ (n : ℕ). c ⊕ columnOf n) (div-eq-of-lt small) ∙ sum-blank c) (sum-shifted k j i q cs (omega arith) (omega arith) l)
+    let next : q * 16 ^ i < 16 ^ suc i = rw (pow-succ' 16 i) (mul-lt-mul-of-pos-right l (place-pos columns columns-fit i)) in
+    let small : q * 16 ^ i < 16 ^ k = lt-of-lt-of-le next (pow-le-pow-right (lit< tt) (omega arith)) in
+    ap₂ _∷_ (rw (div-eq-of-lt small) (sum-blank c)) (sum-shifted k j i q cs (omega arith) (omega arith) l)
 
 pub word-inverted : (π : Projection) (x j q : ℕ) → j < size π → q < 16 → word π (inverted π x j q) ≡ invert j (columnOf q) (word π x)
 word-inverted π x j q h l =
     let i = size π - 1 - j in
-    columns-xor (size π) x (q * 2 ^ (4 * i))
-    ∙ ap (λ (n : ℕ). word π x ⊞ word π (q * n)) (sym (pow-mul 2 4 i))
-    ∙ sum-shifted (size π) j i q (word π x) (length-word π x) (omega arith) l
+    rw (columns-xor (size π) x (q * 2 ^ (4 * i)), ← pow-mul 2 4 i) (sum-shifted (size π) j i q (word π x) (length-word π x) (omega arith) l)
 
 pub inverted-fits : (π : Projection) (x j q : ℕ) → x < 2 ^ width π → j < size π → q < 16 → inverted π x j q < 2 ^ width π
 inverted-fits π x j q hx h l =

@@ -1,7 +1,6 @@
 -- Reading digits into a number, highest first: the number so far, shifted by as many places as are left, and the digits that are
 -- left make up the whole at each step. Where no digit is left it is the number so far; that never is more than the whole.
--- Assumes nothing.
-use mathlib.Core.Path.{_≡_, sym, ap, _∙_}
+use mathlib.Core.Path.{_≡_}
 use mathlib.Core.List.{List, [], _∷_}
 use Prim.Native.Nat.{ℕ, _+_, _*_, _^_, _≤_}
 use native.Mathlib.Nat.{add-assoc, add-mul, mul-assoc, mul-one, mul-le-mul-left, pow-succ', pow-zero}
@@ -18,14 +17,16 @@ module _ {A : Type 0} (d : Digit A) where
   pub followed-next : (a : ℕ) (x : A) (xs : List A) → followed d a (x ∷ xs) ≡ followed d (a * d .base + d .number x) xs
   followed-next a x xs =
       let b = d .base ^ length xs in
-      ap (λ (n : ℕ). a * n + (d .number x * b + numberOf d xs)) (pow-succ' (d .base) (length xs))
-      ∙ sym (add-assoc (a * (d .base * b)) (d .number x * b) (numberOf d xs))
-      ∙ ap (λ (n : ℕ). n + d .number x * b + numberOf d xs) (sym (mul-assoc a (d .base) b))
-      ∙ ap (λ (n : ℕ). n + numberOf d xs) (sym (add-mul (a * d .base) (d .number x) b))
+      rw (
+        pow-succ' (d .base) (length xs),
+        ← add-assoc (a * (d .base * b)) (d .number x * b) (numberOf d xs),
+        ← mul-assoc a (d .base) b,
+        add-mul (a * d .base) (d .number x) b,
+      )
 
   pub followed-none : (a : ℕ) → followed d a [] ≡ a
   followed-none a =
-      let e : a * d .base ^ 0 ≡ a = ap (λ (n : ℕ). a * n) (pow-zero (d .base)) ∙ mul-one a in
+      let e : a * d .base ^ 0 ≡ a = rw pow-zero (mul-one a) in
       omega arith
 
   pub followed-le : Fit d → (a : ℕ) (xs : List A) → a ≤ followed d a xs

@@ -4,8 +4,7 @@
 -- The marked bits filled with zeros, and with ones, give two words whose distances from a codeword add up to its sum: a position that is
 -- wrong counts in both, a marked one in just one of them. So one of the two is within three positions of a near codeword.
 -- The ones of a number are those of its columns, so that wrong and marks can be counted on numbers.
--- Assumes nothing.
-use mathlib.Core.Path.{_≡_, refl, sym, ap, ap₂, _∙_, subst}
+use mathlib.Core.Path.{_≡_, refl, sym, ap, ap₂, _∙_}
 use mathlib.Core.Bool.{Bool, not, _&&_, _||_, true}
 use mathlib.Core.List.{List, [], _∷_}
 use Prim.Native.Nat.{ℕ, _+_, _*_, _^_, _≤_, _<_}
@@ -21,7 +20,7 @@ use Rattle.symbols.proofs.Columns.{weight-le}
 use Rattle.codes.specs.Digits.{columns, numberOf}
 use Rattle.codes.specs.Projection.{Projection, width}
 use Rattle.codes.specs.Word.{word, _⊞_, isCodeword, weightOf, distance}
-use Rattle.codes.specs.Mending.{outsideIn, outside, wrong, ones}
+use Rattle.codes.specs.Correction.{outsideIn, outside, wrong, ones}
 use Rattle.codes.proofs.Digits.{columns-fit, number-lt, pow-mul}
 use Rattle.codes.proofs.Words.{length-word, same-length, codeword-parity}
 use Rattle.codes.proofs.Distance.{Apart, close-same}
@@ -83,9 +82,7 @@ filled-list (c ∷ cs) (w ∷ ws) (m ∷ ms) e g = omega (arith, filled-column c
 pub filled : (π : Projection) (w m x : ℕ) →
     distance (word π (bitXor (bitOr w m) m)) (word π x) + distance (word π (bitOr w m)) (word π x) ≡ sum π w m x
 filled π w m x =
-    ap₂ (λ (a b : List Column). distance a (word π x) + distance b (word π x))
-    (word-xor π (bitOr w m) m ∙ ap (λ (l : List Column). l ⊞ word π m) (word-or π w m)) (word-or π w m)
-    ∙ filled-list (word π x) (word π w) (word π m) (same-length π x w) (same-length π m w)
+    rw (word-xor π (bitOr w m) m, word-or π w m) (filled-list (word π x) (word π w) (word π m) (same-length π x w) (same-length π m w))
 
 -- the ones outside the marks, with the marks set and taken away again
 outside-bit : (a m : Bool) → one ((a || m) ⊻ m) ≡ one (a && not m)
@@ -108,10 +105,9 @@ count-number : (cs : List Column) → count.ones (numberOf columns cs) ≡ weigh
 count-number [] = count-column (columnOf 0)
 count-number (c ∷ cs) =
     let power : 16 ^ length cs ≡ 2 ^ (4 * length cs) = pow-mul 2 4 (length cs) in
-    ap (λ (n : ℕ). count.ones (columnNumber c * n + numberOf columns cs)) power
-    ∙ ones-cat (4 * length cs) (columnNumber c) (numberOf columns cs)
-    (subst (λ (n : ℕ). numberOf columns cs < n) power (number-lt columns columns-fit cs))
-    ∙ ap₂ _+_ (count-column c) (count-number cs)
+    rw power
+    (ones-cat (4 * length cs) (columnNumber c) (numberOf columns cs) (rw (← power) (number-lt columns columns-fit cs))
+    ∙ ap₂ _+_ (count-column c) (count-number cs))
 
 pub count-ones : (π : Projection) (x : ℕ) → x < 2 ^ width π → count.ones x ≡ ones π x
 count-ones π x h = ap count.ones (sym (number-word π x h)) ∙ count-number (word π x)
@@ -119,9 +115,7 @@ count-ones π x h = ap count.ones (sym (number-word π x h)) ∙ count-number (w
 -- the ones that are left are as many as positions are wrong
 pub ones-wrong : (π : Projection) (w m x : ℕ) → ones π (bitXor (bitOr (bitXor x w) m) m) ≡ wrong π w m x
 ones-wrong π w m x =
-    ap weightOf (word-xor π (bitOr (bitXor x w) m) m
-    ∙ ap (λ (l : List Column). l ⊞ word π m) (word-or π (bitXor x w) m ∙ ap (λ (l : List Column). zip orIn l (word π m)) (word-xor π x w)))
-    ∙ outside-list (word π x ⊞ word π w) (word π m)
+    rw (word-xor π (bitOr (bitXor x w) m) m, word-or π (bitXor x w) m, word-xor π x w) (outside-list (word π x ⊞ word π w) (word π m))
 
 -- a word has no more ones than bits
 weight-length : (cs : List Column) → weightOf cs ≤ 4 * length cs

@@ -2,7 +2,7 @@
 -- The columns that are not free have a one in a row of their own, in row order. So what is put into them comes out as the syndrome. A word's
 -- syndrome is the sum of that and of the free values' syndrome; it is zero just where the two are equal, so the free values' syndrome is
 -- what the other columns must have.
--- Of the code this takes computed tests of its matrix and its free columns (`Systematic`). Assumes nothing else.
+-- Of the code this takes computed tests of its matrix and its free columns (`Systematic`).
 use mathlib.Core.Path.{_≡_, refl, sym, ap, ap₂, _∙_}
 use mathlib.Core.Bool.{Bool, true, false, not, _&&_}
 use mathlib.Core.List.{List, [], _∷_, map}
@@ -31,7 +31,7 @@ chosen-place : (l : List Bool) (fs ds : List Symbol) → length fs ≡ count l �
 chosen-place [] [] ds e = refl
 chosen-place [] (f ∷ fs) ds e = absurd (omega arith)
 chosen-place (true ∷ l) [] ds e = absurd (omega arith)
-chosen-place (true ∷ l) (f ∷ fs) ds e = ap (λ (x : List Symbol). f ∷ x) (chosen-place l fs ds (omega arith))
+chosen-place (true ∷ l) (f ∷ fs) ds e = rw (chosen-place l fs ds (omega arith))
 chosen-place (false ∷ l) fs [] e = chosen-place l fs [] e
 chosen-place (false ∷ l) fs (d ∷ ds) e = chosen-place l fs ds e
 
@@ -46,24 +46,24 @@ place-chosen : (l : List Bool) (vs : List Symbol) → length vs ≡ length l →
 place-chosen [] [] e = refl
 place-chosen [] (v ∷ vs) e = absurd (omega arith)
 place-chosen (b ∷ l) [] e = absurd (omega arith)
-place-chosen (true ∷ l) (v ∷ vs) e = ap (λ (x : List Symbol). v ∷ x) (place-chosen l vs (omega arith))
-place-chosen (false ∷ l) (v ∷ vs) e = ap (λ (x : List Symbol). v ∷ x) (place-chosen l vs (omega arith))
+place-chosen (true ∷ l) (v ∷ vs) e = rw (place-chosen l vs (omega arith))
+place-chosen (false ∷ l) (v ∷ vs) e = rw (place-chosen l vs (omega arith))
 
 -- free values and others are placed by themselves and added
 place-split : (l : List Bool) (fs ds : List Symbol) → addV (place l fs []) (place l [] ds) ≡ place l fs ds
 place-split [] fs ds = refl
-place-split (true ∷ l) [] ds = ap (λ (x : List Symbol). s0 ∷ x) (place-split l [] ds)
+place-split (true ∷ l) [] ds = rw (place-split l [] ds)
 place-split (true ∷ l) (f ∷ fs) ds = ap₂ _∷_ (add-zero f) (place-split l fs ds)
-place-split (false ∷ l) fs [] = ap (λ (x : List Symbol). s0 ∷ x) (place-split l fs [])
+place-split (false ∷ l) fs [] = rw (place-split l fs [])
 place-split (false ∷ l) fs (d ∷ ds) = ap₂ _∷_ (add-comm s0 d ∙ add-zero d) (place-split l fs ds)
 
 -- others that are 0 are like none
 pub place-zeros : (l : List Bool) (fs : List Symbol) (k : ℕ) → place l fs (zeros k) ≡ place l fs []
 place-zeros [] fs k = refl
-place-zeros (true ∷ l) [] k = ap (λ (x : List Symbol). s0 ∷ x) (place-zeros l [] k)
-place-zeros (true ∷ l) (f ∷ fs) k = ap (λ (x : List Symbol). f ∷ x) (place-zeros l fs k)
+place-zeros (true ∷ l) [] k = rw (place-zeros l [] k)
+place-zeros (true ∷ l) (f ∷ fs) k = rw (place-zeros l fs k)
 place-zeros (false ∷ l) fs zero = refl
-place-zeros (false ∷ l) fs (suc k) = ap (λ (x : List Symbol). s0 ∷ x) (place-zeros l fs k)
+place-zeros (false ∷ l) fs (suc k) = rw (place-zeros l fs k)
 
 -- a test of every vector of k symbols
 abbrev pub vectors : ℕ → (List Symbol → Bool) → Bool
@@ -112,10 +112,8 @@ module _ (π : Projection) (sys : Systematic π) where
   syndrome-placed : (fs ds : List Symbol) → length ds ≡ π .rows →
       syndrome (π .rows) (π .matrix) (place (π .free) fs ds) ≡ addV (syndrome (π .rows) (π .matrix) (place (π .free) fs [])) ds
   syndrome-placed fs ds e =
-      ap S (sym (place-split (π .free) fs ds))
-      ∙ syndrome-add (π .rows) (π .matrix) (place (π .free) fs []) (place (π .free) [] ds)
-      (length-place (π .free) fs [] ∙ sym (length-place (π .free) [] ds))
-      ∙ ap (addV (S (place (π .free) fs []))) (syndrome-others ds e)
+      let long = length-place (π .free) fs [] ∙ sym (length-place (π .free) [] ds) in
+      rw (← place-split (π .free) fs ds, syndrome-add (π .rows) (π .matrix) (place (π .free) fs []) (place (π .free) [] ds) long, syndrome-others ds e)
 
   pub length-values : (fs : List Symbol) → length (allValues π fs) ≡ size π
   length-values fs = length-place (π .free) fs (S (place (π .free) fs [])) ∙ sys .flags
@@ -124,7 +122,7 @@ module _ (π : Projection) (sys : Systematic π) where
   pub values-zero : (fs : List Symbol) → isZeroV (syndrome (π .rows) (π .matrix) (allValues π fs)) ≡ true
   values-zero fs =
       let s = S (place (π .free) fs []) in
-      ap isZeroV (syndrome-placed fs s (length-syndrome (π .rows) (π .matrix) (sys .shape) (place (π .free) fs []))) ∙ addV-self s
+      rw (syndrome-placed fs s (length-syndrome (π .rows) (π .matrix) (sys .shape) (place (π .free) fs []))) (addV-self s)
 
   pub chosen-values : (fs : List Symbol) → length fs ≡ count (π .free) → chosen (π .free) (allValues π fs) ≡ fs
   chosen-values fs e = chosen-place (π .free) fs (S (place (π .free) fs [])) e
@@ -139,5 +137,5 @@ module _ (π : Projection) (sys : Systematic π) where
       let el : length vs ≡ length l = e ∙ sym (sys .flags) in
       let ed : length ds ≡ π .rows = length-chosen (map not l) vs (el ∙ sym (length-map l not)) ∙ sys .others in
       let whole = place-chosen l vs el in
-      let zero : isZeroV (addV (S (place l fs [])) ds) ≡ true = ap isZeroV (sym (syndrome-placed fs ds ed) ∙ ap S whole) ∙ z in
+      let zero : isZeroV (addV (S (place l fs [])) ds) ≡ true = rw (← syndrome-placed fs ds ed, whole) z in
       ap (place l fs) (zero-sum-same (S (place l fs [])) ds (length-syndrome (π .rows) (π .matrix) (sys .shape) (place l fs []) ∙ sym ed) zero) ∙ whole

@@ -1,6 +1,5 @@
 -- Positions of a word, counted from its highest bit, are the rows of its columns: of m columns, column c is the digit of 16^(m−c), and row r
 -- of it the digit of 2^(3−r).
--- Assumes nothing.
 use mathlib.Core.Path.{_≡_, sym, _∙_}
 use Prim.Native.Nat.{ℕ, zero, suc, _+_, _-_, _*_, _/_, _%_, _^_, _<_}
 use native.Mathlib.Nat.{mod-lt}
@@ -8,7 +7,7 @@ use native.Mathlib.Omega.{arith}
 use lib.Dec.{eqb, lit<}
 use lib.ListN.{getD}
 use lib.Pow.{shr-shr}
-use Rattle.symbols.specs.Symbol.{bit}
+use Rattle.symbols.specs.Symbol.{hasBit}
 use Rattle.symbols.specs.Column.{columnOf, one}
 use Rattle.symbols.proofs.Every.{law-below, number-discrete}
 use Rattle.codes.specs.Digits.{Digit, columns, digits}
@@ -22,7 +21,7 @@ digit-at d zero n i x h = absurd (omega arith)
 digit-at d (suc k) n zero x h = let e : suc k - 1 - 0 ≡ k = omega arith in rw e
 digit-at d (suc k) n (suc i) x h = let e : suc k - 1 - suc i ≡ k - 1 - i = omega arith in rw e (digit-at d k n i x (omega arith))
 
-one-bit : (k n : ℕ) → one (bit k n) ≡ n / 2 ^ k % 2
+one-bit : (k n : ℕ) → one (hasBit k n) ≡ n / 2 ^ k % 2
 one-bit k n = law-below 2 number-discrete (λ x. one (eqb x 1)) (λ x. x) tt (n / 2 ^ k % 2) (mod-lt (n / 2 ^ k) (lit< tt))
 
 -- a row of a number's column

@@ -1,8 +1,7 @@
 -- A message out of a word's columns, its highest part first: p, then the free values, then the top bits but the last.
 -- At each step the number so far, followed by the digits of the columns that are left, is the whole; the whole is a message of the code, so
 -- the number so far is below the code's limit.
--- Assumes nothing.
-use mathlib.Core.Path.{_≡_, refl, sym, ap, ap₂, _∙_, subst}
+use mathlib.Core.Path.{_≡_, refl, ap}
 use mathlib.Core.Bool.{Bool, true, false, cond}
 use mathlib.Core.List.{List, [], _∷_, map}
 use Prim.Native.Nat.{ℕ, zero, suc, _+_, _*_, _^_, _≤_, _<_}
@@ -12,10 +11,10 @@ use lib.ListN.{length, getD, take, drop, List·getD-map, length-map}
 use lib.Seq.{drop-cons, getD-take}
 use Rattle.symbols.specs.Symbol.{Symbol, symbolNumber}
 use Rattle.symbols.specs.Column.{Column, value, parity, top, one, columnOf}
-use Rattle.codes.specs.Digits.{bits, symbols, numberOf}
+use Rattle.codes.specs.Digits.{bits, symbols}
 use Rattle.codes.specs.Projection.{Projection, size, messageBits}
 use Rattle.codes.specs.Message.{chosen, firstParity, butLast, messageIn, messageNumber}
-use Rattle.codes.specs.Walk.{held, highPart}
+use Rattle.codes.specs.ContractsOfWalk.{held, highPart}
 use Rattle.codes.proofs.Digits.{bits-fit}
 use Rattle.codes.proofs.Horner.{followed, followed-next, followed-le}
 use Rattle.codes.proofs.Placing.{Systematic}
@@ -47,8 +46,7 @@ module _ (π : Projection) (sys : Systematic π) (a : List ℕ) (room : size π 
   pub read-start : followed symbols (one (parity (columnOf (getD a 0 0)))) (chosen (π .free) (map value (held π a))) ≡ highPart π (held π a)
   read-start =
       let first : held π a ≡ columnOf (getD a 0 0) ∷ drop 1 (held π a) = held-from π a room 0 (sys .some) in
-      ap₂ (λ (p : Bool) (k : ℕ). one p * 4 ^ k + numberOf symbols (chosen (π .free) (map value cs)))
-      (sym (ap firstParity first)) (sized π sys cs long .values)
+      rw (← ap firstParity first, sized π sys cs long .values)
 
   -- a free column's value joins the number, and that of another doesn't
   pub read-value : (i n : ℕ) → i < size π →
@@ -56,25 +54,25 @@ module _ (π : Projection) (sys : Systematic π) (a : List ℕ) (room : size π 
       ≡ followed symbols (cond (getD (π .free) i false) (n * 4 + symbolNumber (value (columnOf (getD a i 0)))) n)
       (chosen (drop (suc i) (π .free)) (map value (drop (suc i) (held π a))))
   read-value i n h =
-      ap₂ (λ (l : List Bool) (xs : List Column). followed symbols n (chosen l (map value xs)))
-      (drop-cons (π .free) i false (omega (arith, sys .flags))) (held-from π a room i h)
-      ∙ chosen-next n (getD (π .free) i false) (drop (suc i) (π .free)) (value (columnOf (getD a i 0))) (map value (drop (suc i) cs))
+      rw (drop-cons (π .free) i false (omega (arith, sys .flags)), held-from π a room i h)
+      (chosen-next n (getD (π .free) i false) (drop (suc i) (π .free)) (value (columnOf (getD a i 0))) (map value (drop (suc i) cs)))
 
   -- the whole, before the top bits are read
   pub read-tops : followed bits (highPart π (held π a)) (butLast (map top (held π a))) ≡ messageNumber π (messageIn π (held π a))
-  read-tops = ap (λ (k : ℕ). highPart π cs * 2 ^ k + numberOf bits (butLast (map top cs))) (sized π sys cs long .tops)
+  read-tops = rw (sized π sys cs long .tops)
 
   -- a top bit joins the number
   pub read-top : (i n : ℕ) → suc i < size π →
       followed bits n (drop i (butLast (map top (held π a))))
       ≡ followed bits (n * 2 + one (top (columnOf (getD a i 0)))) (drop (suc i) (butLast (map top (held π a))))
   read-top i n h =
-      ap (followed bits n)
-      (but-last-from (map top cs) i (omega (arith, long, length-map cs top))
-      ∙ ap (λ (b : Bool). b ∷ drop (suc i) (butLast (map top cs)))
-      (List·getD-map top cs i (columnOf 0)
-      ∙ ap top (List·getD-map columnOf (take (size π) a) i 0 ∙ ap columnOf (getD-take (size π) a i 0 (omega arith)))))
-      ∙ followed-next bits n (top (columnOf (getD a i 0))) (drop (suc i) (butLast (map top cs)))
+      rw (
+        but-last-from (map top cs) i (omega (arith, long, length-map cs top)),
+        List·getD-map top cs i (columnOf 0),
+        List·getD-map columnOf (take (size π) a) i 0,
+        getD-take (size π) a i 0 (omega arith),
+      )
+      (followed-next bits n (top (columnOf (getD a i 0))) (drop (suc i) (butLast (map top cs))))
 
   -- the whole, and its high part, are below the code's limit
   pub message-bounded : messageNumber π (messageIn π (held π a)) < 2 ^ messageBits π
@@ -82,5 +80,4 @@ module _ (π : Projection) (sys : Systematic π) (a : List ℕ) (room : size π 
 
   pub high-bounded : highPart π (held π a) < 2 ^ messageBits π
   high-bounded =
-      lt-of-le-of-lt (subst (λ (x : ℕ). highPart π cs ≤ x) read-tops (followed-le bits bits-fit (highPart π cs) (butLast (map top cs))))
-      message-bounded
+      lt-of-le-of-lt (rw (read-tops) at (followed-le bits bits-fit (highPart π cs) (butLast (map top cs)))) message-bounded

@@ -1,9 +1,8 @@
 -- The search for a codeword: what it asks of a code, its answers, and a word with bits of one column inverted.
 -- Of a word are known its packed syndrome and whether its top row is off; inverting bits of a column adds that column's scaled column to
--- the one and the bit of the top row to the other. Where at most one position is left to invert, a syndrome other than zero that is no
--- multiple of a column is hopeless: the difference from a codeword has more than one live column, and each has a one.
--- Assumes nothing.
-use mathlib.Core.Path.{_≡_, sym, ap, ap₂, _∙_, subst}
+-- the one and the bit of the top row to the other. Where at most one position is left to invert, and the syndrome is neither zero nor a
+-- multiple of a column, no codeword is so close: the difference from one has more than one live column, and each has a one.
+use mathlib.Core.Path.{_≡_, _∙_}
 use mathlib.Core.Bool.{Bool, true}
 use mathlib.Core.List.{List, []}
 use Prim.Native.Nat.{ℕ, _+_, _^_, _≤_, _<_}
@@ -16,10 +15,10 @@ use Rattle.symbols.specs.Symbol.{_⊻_}
 use Rattle.symbols.specs.Column.{Column, value, top, weight, columnOf}
 use Rattle.symbols.proofs.Symbols.{xor-last}
 use Rattle.codes.specs.Digits.{symbols, digits, numberOf}
-use Rattle.codes.specs.Vector.{addV, scale}
+use Rattle.codes.specs.Vector.{scale}
 use Rattle.codes.specs.Projection.{Projection, wanted, size, width}
-use Rattle.codes.specs.Word.{word, syndromeOf, topRow, distance}
-use Rattle.codes.specs.Search.{entry, inverted, Known, Within, nothing, Sought, Hopeless}
+use Rattle.codes.specs.Word.{word, topRow, distance}
+use Rattle.codes.specs.ContractsOfSearch.{entry, inverted, Known, Within, nothing, Sought, Far}
 use Rattle.codes.proofs.Vectors.{shaped, length-scale}
 use Rattle.codes.proofs.Digits.{symbols-fit, digits-again}
 use Rattle.codes.proofs.Distance.{Apart}
@@ -47,8 +46,8 @@ pub sought-word : {π : Projection} {test : List Column → Bool} {k x y : ℕ} 
 sought-word code w = sought-one _ w (lt-of-lt-of-le (w .fits) (pow-mono (code .narrow)))
 
 -- where the syndrome is not zero and has no entry, no codeword is within one position
-pub hopeless : (π : Projection) → Searchable π → (k s : ℕ) → s < 4 ^ π .rows → k ≤ 1 → (s ≡ 0 → ⊥) → entry π s ≡ 0 → Hopeless π k s
-hopeless π code k s h l n e x y ex zy d =
+pub far : (π : Projection) → Searchable π → (k s : ℕ) → s < 4 ^ π .rows → k ≤ 1 → (s ≡ 0 → ⊥) → entry π s ≡ 0 → Far π k s
+far π code k s h l n e x y ex zy d =
     none-close π 1 (digits symbols (π .rows) s) (more-than-one π (code .tabled) s h n e) (word π x) (word π y) ex zy
     (length-word π x) (length-word π y) (omega arith)
 
@@ -64,20 +63,22 @@ known-inverted {π} {p} {s} {off} {x} code known j q g hj hq eg =
     record {
       fits = inverted-fits π x j q (known .fits) hj hq;
       syndromes =
-          digits-add (π .rows) s g
-          ∙ ap₂ addV (known .syndromes)
-          (ap (digits symbols (π .rows)) eg
-          ∙ digits-again symbols symbols-fit (π .rows) (scale v h) (length-scale v h ∙ shaped-at (π .rows) (π .matrix) j (code .shape) hj))
-          ∙ sym (ap (syndromeOf π) ew ∙ syndrome-invert (π .rows) (π .matrix) j (columnOf q) (word π x) (length-word π x) inside);
+          rw (
+            digits-add (π .rows) s g,
+            known .syndromes,
+            eg,
+            digits-again symbols symbols-fit (π .rows) (scale v h) (length-scale v h ∙ shaped-at (π .rows) (π .matrix) j (code .shape) hj),
+            ew,
+            syndrome-invert (π .rows) (π .matrix) j (columnOf q) (word π x) (length-word π x) inside,
+          );
       tops =
-          ap (λ (b : Bool). b ⊻ top (columnOf q)) (known .tops)
-          ∙ xor-last (topRow (word π x)) (wanted (π .rule) p) (top (columnOf q))
-          ∙ sym (ap (λ (b : Bool). b ⊻ wanted (π .rule) p) (ap topRow ew ∙ topRow-invert j (columnOf q) (word π x) inside));
+          rw (known .tops, ew, topRow-invert j (columnOf q) (word π x) inside)
+          (xor-last (topRow (word π x)) (wanted (π .rule) p) (top (columnOf q)));
     }
 
 -- a word gets nearer to another by no more than the bits that are inverted
 pub inverted-nearer-by : (π : Projection) (x y j q : ℕ) → j < size π → q < 16 →
     distance (word π x) (word π y) ≤ distance (word π (inverted π x j q)) (word π y) + weight (columnOf q)
 inverted-nearer-by π x y j q hj hq =
-    subst (λ (l : List Column). distance (word π x) (word π y) ≤ distance l (word π y) + weight (columnOf q)) (sym (word-inverted π x j q hj hq))
+    rw (word-inverted π x j q hj hq)
     (nearer-by j (columnOf q) (word π x) (word π y) (same-length π x y) (omega (arith, length-word π x)))

@@ -1,10 +1,9 @@
--- Seeking: the columns that lack the parity p, from the last to the first, and both parities in turn.
+-- Seeking: the columns that lack the parity p, from the last to the first, for one parity and then for the other.
 -- A column that lacks the parity differs from the codeword's in a row, so with one of its four rows inverted the word is a position nearer,
 -- and the column has the parity. Where more than three columns lack the parity, no codeword is within three positions.
 -- A codeword is even or odd, so what is within three positions is found by a search for each.
--- Assumes nothing.
-use mathlib.Core.Path.{_≡_, refl, sym, ap, _∙_, subst, subst₂}
-use mathlib.Core.Bool.{Bool, true, false, not, Bool·beq, Bool-discrete}
+use mathlib.Core.Path.{_≡_, refl, sym, ap, _∙_}
+use mathlib.Core.Bool.{Bool, true, false, Bool·beq, Bool-discrete}
 use mathlib.Core.List.{List, [], _∷_, map}
 use Prim.Native.Nat.{ℕ, zero, suc, _+_, _-_, _/_, _^_, _≤_, _<_}
 use native.Mathlib.Omega.{arith}
@@ -12,16 +11,16 @@ use lib.Bits.{bitXor}
 use lib.Dec.{eqb, ltb, ltb→lt}
 use lib.ListN.{length, getD, take, List·getD-map}
 use lib.Seq.{getD-take, take-take, take-all}
-use Rattle.symbols.specs.Symbol.{_⊻_, Symbol, Symbol-discrete, symbolOf}
+use Rattle.symbols.specs.Symbol.{_⊻_, Symbol-discrete, symbolOf}
 use Rattle.symbols.specs.Column.{Column, value, parity, top, one, weight, columnOf}
 use Rattle.symbols.proofs.Every.{law-below, at-below, number-discrete}
 use Rattle.symbols.proofs.Symbols.{xor-self, xor-comm, unequal-xor}
 use Rattle.codes.specs.Digits.{symbols, numberOf}
 use Rattle.codes.specs.Vector.{scale}
-use Rattle.codes.specs.Projection.{Projection, wanted, size}
-use Rattle.codes.specs.Word.{word, syndromeOf, allParity, topRow, isCodewordOf, isCodeword, distance}
-use Rattle.codes.specs.Walk.{held, odds}
-use Rattle.codes.specs.Search.{lacks, inverted, Known, Ahead, Begun, Seeking, Within, nothing, Sought}
+use Rattle.codes.specs.Projection.{Projection, wanted, size, width}
+use Rattle.codes.specs.Word.{word, syndromeOf, allParity, isCodewordOf, isCodeword}
+use Rattle.codes.specs.ContractsOfWalk.{held, odds, Walked}
+use Rattle.codes.specs.ContractsOfSearch.{lacks, inverted, Ahead, Begun, Seeking, Within, nothing, Sought}
 use Rattle.codes.proofs.Words.{length-word, same-length, parity-first, parity-rest, count-cons}
 use Rattle.codes.proofs.Words.{Codeword, codeword-parts, codeword-passes, is-codeword, codeword-parity}
 use Rattle.codes.proofs.Flips.{blank, invert, rowColumn, lacks-invert, take-invert, nearer, word-inverted}
@@ -46,7 +45,7 @@ row-small r h = ltb→lt (8 / 2 ^ r) 16 (at-below 4 (λ r. ltb (8 / 2 ^ r) 16) t
 
 -- a column whose parity was compared with p, and is not that
 pub lacks-other : (a p : Bool) {q : Bool} → Bool·beq a p ≡ false → a ≡ q → p ⊻ q ≡ true
-lacks-other a p e g = ap (λ (b : Bool). p ⊻ b) (sym g) ∙ xor-comm p a ∙ sym (unequal-xor a p) ∙ ap not e
+lacks-other a p e g = rw (← g, xor-comm p a, ← unequal-xor a p, e)
 
 -- the columns that lack a parity among the first, one column more
 lacks-last : (p : Bool) (cs : List Column) (j : ℕ) → j < length cs →
@@ -87,18 +86,16 @@ module _ {π : Projection} {p : Bool} {a : List ℕ} {i left k s : ℕ} {off : B
   inside = omega (arith, column-inside, length-word π x)
 
   same : take (suc j) (word π x) ≡ take (suc j) (held π a)
-  same = subst (λ (n : ℕ). take n (word π x) ≡ take n (held π a)) column-ahead (seeking .ahead .same)
+  same = rw (← column-ahead) (seeking .ahead .same)
 
   front : lacks p (take (suc j) (word π x)) ≡ left
-  front = subst (λ (n : ℕ). lacks p (take n (word π x)) ≡ left) column-ahead (seeking .ahead .front)
+  front = rw (← column-ahead) (seeking .ahead .front)
 
   -- column j is still as the array has it
   here : getD (word π x) j blank ≡ columnOf (getD a j 0)
   here =
-      sym (getD-take (suc j) (word π x) j blank (omega arith))
-      ∙ ap (λ (l : List Column). getD l j blank) same
-      ∙ getD-take (suc j) (held π a) j blank (omega arith)
-      ∙ List·getD-map columnOf (take (size π) a) j 0 ∙ ap columnOf (getD-take (size π) a j 0 column-inside)
+      rw (← getD-take (suc j) (word π x) j blank (omega arith), same, getD-take (suc j) (held π a) j blank (omega arith))
+      (List·getD-map columnOf (take (size π) a) j 0 ∙ ap columnOf (getD-take (size π) a j 0 column-inside))
 
   same-front : (l : List Column) → take j l ≡ take j (word π x) → take j l ≡ take j (held π a)
   same-front l e = e ∙ sym (take-take j (suc j) (word π x) (omega arith)) ∙ ap (take j) same ∙ take-take j (suc j) (held π a) (omega arith)
@@ -106,7 +103,7 @@ module _ {π : Projection} {p : Bool} {a : List ℕ} {i left k s : ℕ} {off : B
   -- a column that has the parity is passed
   pub seek-skip : parity (columnOf (getD a j 0)) ≡ p → Seeking π p a j left k s off x
   seek-skip e =
-      let even : p ⊻ parity (getD (word π x) j blank) ≡ false = ap (λ (b : Bool). p ⊻ b) (ap parity here ∙ e) ∙ xor-self p in
+      let even : p ⊻ parity (getD (word π x) j blank) ≡ false = rw (here, e) (xor-self p) in
       record {
         known = seeking .known;
         ahead = record {
@@ -122,7 +119,7 @@ module _ {π : Projection} {p : Bool} {a : List ℕ} {i left k s : ℕ} {off : B
   -- a column that lacks it
   module _ (lack : p ⊻ parity (columnOf (getD a j 0)) ≡ true) where
     lacking : p ⊻ parity (getD (word π x) j blank) ≡ true
-    lacking = ap (λ (c : Column). p ⊻ parity c) here ∙ lack
+    lacking = rw here lack
 
     -- with row r of it inverted the search goes on, with one position fewer to invert
     pub seek-row : Searchable π → (r g : ℕ) (off′ : Bool) (y : ℕ) → r < 4 → g ≡ numberOf symbols (scale (symbolOf r) (getD (π .matrix) j [])) →
@@ -133,9 +130,9 @@ module _ {π : Projection} {p : Bool} {a : List ℕ} {i left k s : ℕ} {off : B
         let et : take j (word π y) ≡ take j (word π x) = ap (take j) ew ∙ take-invert j (rowColumn r) (word π x) in
         let known =
         known-inverted code (seeking .known) j q g column-inside (row-small r hr)
-        (eg ∙ ap (λ (v : Symbol). numberOf symbols (scale v (getD (π .matrix) j []))) (sym (row-value r hr))) in
+        (rw (row-value r hr) eg) in
         record {
-          known = subst₂ (λ (b : Bool) (z : ℕ). Known π p (bitXor s g) b z) (ap (λ (b : Bool). off ⊻ b) (row-top r hr) ∙ sym eo) (sym ey) known;
+          known = rw (eo, ey, ← row-top r hr) known;
           ahead = record {
             same = same-front (word π y) et;
             front = ap (lacks p) et ∙ omega (arith, lacks-last p (word π x) j inside, front, ap one lacking);
@@ -152,8 +149,7 @@ module _ {π : Projection} {p : Bool} {a : List ℕ} {i left k s : ℕ} {off : B
     seek-none none y w =
         let c = codeword-parts π p (word π y) (w .passes) in
         let differ : parity (getD (word π x) j blank) ⊻ parity (getD (word π y) j blank) ≡ true =
-        ap (λ (b : Bool). parity (getD (word π x) j blank) ⊻ b) (parity-at p (word π y) j (c .parities) (omega (arith, column-inside, length-word π y)))
-        ∙ xor-comm (parity (getD (word π x) j blank)) p ∙ lacking in
+        rw (parity-at p (word π y) j (c .parities) (omega (arith, column-inside, length-word π y)), xor-comm (parity (getD (word π x) j blank)) p) lacking in
         let near = nearer j (word π x) (word π y) (same-length π x y) inside differ in
         let r = near .0 in
         none r (near .1) y
@@ -161,8 +157,7 @@ module _ {π : Projection} {p : Bool} {a : List ℕ} {i left k s : ℕ} {off : B
           fits = w .fits;
           passes = w .passes;
           close =
-              subst (λ (l : List Column). distance l (word π y) ≤ k - 1) (sym (word-inverted π x j (8 / 2 ^ r) column-inside (row-small r (near .1))))
-              (omega (arith, near .2, w .close));
+              rw (word-inverted π x j (8 / 2 ^ r) column-inside (row-small r (near .1))) (omega (arith, near .2, w .close));
         })
 
   -- what was found with a row inverted is at most one position further
@@ -185,7 +180,7 @@ seek-start {π} {p} {a} {left} {s} {t} {n} {x} begun few i ei off eo =
           record {
             fits = begun .fits;
             syndromes = begun .walked .syndromes ∙ ap (syndromeOf π) (begun .same);
-            tops = eo ∙ ap (λ (b : Bool). b ⊻ wanted (π .rule) p) (begun .walked .tops ∙ ap topRow (begun .same));
+            tops = rw (eo, begun .walked .tops, begun .same);
           };
       ahead = record { same = ap (take i) (sym (begun .same)); front = ap (lacks p) whole ∙ sym (begun .lacking); whole = sym (begun .lacking) };
       inside = omega arith;
@@ -200,17 +195,31 @@ too-many {π} {p} {a} {left} {s} {t} {n} {x} begun h y w =
     omega
     (arith, begun .lacking, w .close, lacks-distance p (word π x) (word π y) (same-length π x y) (codeword-parts π p (word π y) (w .passes) .parities))
 
--- the odd columns lack parity 0, and the others parity 1
-pub odd-lacks : (π : Projection) (a : List ℕ) (x n : ℕ) → held π a ≡ word π x → n ≡ odds (held π a) →
-    (n ≡ lacks false (word π x)) × (n ≤ size π) × (size π - n ≡ lacks true (word π x))
-odd-lacks π a x n eh en =
-    let e : n ≡ lacks false (word π x) = en ∙ ap odds eh in
-    (e, omega (arith, lacks-both (word π x), length-word π x), omega (arith, lacks-both (word π x), length-word π x))
+-- where a search can begin: the odd columns lack parity 0, and the others parity 1
+pub begun-even : {π : Projection} {a : List ℕ} {s : ℕ} {t : Bool} {n x : ℕ} → x < 2 ^ width π → held π a ≡ word π x →
+    Walked (π .rows) (π .matrix) (held π a) s t n → Begun π false a n s t n x
+begun-even fits same walked = record { fits = fits; same = same; walked = walked; lacking = walked .odd ∙ ap odds same }
+
+pub odd-le : {π : Projection} {a : List ℕ} {s : ℕ} {t : Bool} {n x : ℕ} → Begun π false a n s t n x → n ≤ size π
+odd-le {π} {x = x} even = omega (arith, even .lacking, lacks-both (word π x), length-word π x)
+
+pub begun-odd : {π : Projection} {a : List ℕ} {left s : ℕ} {t : Bool} {n x : ℕ} → Begun π false a n s t n x → left ≡ size π - n →
+    Begun π true a left s t n x
+begun-odd {π} {x = x} even e =
+    record {
+      fits = even .fits;
+      same = even .same;
+      walked = even .walked;
+      lacking = omega (arith, even .lacking, lacks-both (word π x), length-word π x);
+    }
+
+-- a word that is close, by another test that it passes
+within-by : {π : Projection} {test test′ : List Column → Bool} {k x y : ℕ} → Within π test k x y → test′ (word π y) ≡ true → Within π test′ k x y
+within-by w e = record { fits = w .fits; passes = e; close = w .close }
 
 -- a codeword of either parity is one, and where no even one is close it is odd
 pub within-any : {π : Projection} {k x y : ℕ} (p : Bool) → Within π (isCodewordOf π p) k x y → Within π (isCodeword π) k x y
-within-any {π} {k} {x} {y} p w =
-    record { fits = w .fits; passes = is-codeword π p (word π y) (codeword-parts π p (word π y) (w .passes)); close = w .close }
+within-any {π} {k} {x} {y} p w = within-by w (is-codeword π p (word π y) (codeword-parts π p (word π y) (w .passes)))
 
 pub sought-either : {π : Projection} {k x r : ℕ} → ((y : ℕ) → Within π (isCodewordOf π false) k x y → ⊥) →
     Sought (Within π (isCodewordOf π true) k x) r → Sought (Within π (isCodeword π) k x) r
@@ -218,5 +227,5 @@ sought-either {π} {k} {x} {r} even odd =
     record { found = λ l. within-any true (odd .found l); none = λ l y w. go l y w (codeword-parity π (word π y) (w .passes)) }
   where
     go : nothing ≤ r → (y : ℕ) → Within π (isCodeword π) k x y → (p : Bool) × Codeword π p (word π y) → ⊥
-    go l y w (false, c) = even y (record { fits = w .fits; passes = codeword-passes π false (word π y) c; close = w .close })
-    go l y w (true, c) = odd .none l y (record { fits = w .fits; passes = codeword-passes π true (word π y) c; close = w .close })
+    go l y w (false, c) = even y (within-by w (codeword-passes π false (word π y) c))
+    go l y w (true, c) = odd .none l y (within-by w (codeword-passes π true (word π y) c))

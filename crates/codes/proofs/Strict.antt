@@ -1,8 +1,7 @@
 -- Strict reading: whether a word is a codeword, by what the walk over its columns collects.
 -- The syndrome is zero just where its number is 0; all columns are even just where none is odd, and odd just where as many are odd as
 -- there are. So what the walk collects, and the number of columns, decide each part of the definition of a codeword.
--- Assumes nothing.
-use mathlib.Core.Path.{_≡_, refl, sym, ap, ap₂, _∙_}
+use mathlib.Core.Path.{_≡_, refl, sym, ap, _∙_}
 use mathlib.Core.Bool.{Bool, true, false, _&&_, _||_, Bool·beq, false≢true}
 use mathlib.Core.List.{List, [], _∷_, map}
 use Prim.Native.Nat.{ℕ, zero, suc, _^_, _<_}
@@ -15,7 +14,7 @@ use Rattle.codes.specs.Digits.{symbols, digits, numberOf}
 use Rattle.codes.specs.Vector.{zeros, isZeroV}
 use Rattle.codes.specs.Projection.{Projection, wanted, count, size}
 use Rattle.codes.specs.Word.{syndromeOf, allParity, isCodeword}
-use Rattle.codes.specs.Walk.{odds, Walked}
+use Rattle.codes.specs.ContractsOfWalk.{odds, Walked}
 use Rattle.codes.proofs.Digits.{symbols-fit, number-again}
 use Rattle.codes.proofs.Vectors.{zeros-zero, zero-is-zeros}
 use Rattle.codes.proofs.Words.{wanted-even}
@@ -34,7 +33,7 @@ packed-zero r s h = go (isZeroV (digits symbols r s)) refl
     go true e =
         sym (eq-eqb s 0 (sym (number-again symbols symbols-fit r s h)
         ∙ ap (numberOf symbols) (zero-is-zeros (digits symbols r s) e) ∙ zeros-number (length (digits symbols r s))))
-    go false e = sym (ne-eqb s 0 (λ (z : s ≡ 0). false≢true (sym e ∙ ap isZeroV (ap (digits symbols r) z ∙ digits-zero r) ∙ zeros-zero r)))
+    go false e = sym (ne-eqb s 0 (λ (z : s ≡ 0). false≢true (sym e ∙ rw (z, digits-zero r) (zeros-zero r))))
 
 -- all columns are even, and all are odd, by the number of odd ones
 all-even : (cs : List Column) → allParity false cs ≡ eqb (odds cs) 0
@@ -54,18 +53,16 @@ all-odd (c ∷ cs) = go (parity c) (all-odd cs)
     go true e = e ∙ sym (eqb·suc-suc (odds cs) (length cs))
     go false e = sym (ne-eqb (odds cs) (suc (length cs)) (λ (z : odds cs ≡ suc (length cs)). omega (arith, odds-le cs)))
 
--- the verdict on a word, by whether its syndrome is 0, whether all columns are even, whether all are odd, its top row's parity, and the
+-- whether a word is a codeword, by whether its syndrome is 0, whether all columns are even, whether all are odd, its top row's parity, and the
 -- parity that the rule wants of an odd codeword's top row
-abbrev pub verdict : Bool → Bool → Bool → Bool → Bool → Bool
-verdict z even odd t w = z && (even && Bool·beq t false) || z && (odd && Bool·beq t w)
+abbrev pub codewordBy : Bool → Bool → Bool → Bool → Bool → Bool
+codewordBy z even odd t w = z && (even && Bool·beq t false) || z && (odd && Bool·beq t w)
 
-pub judged : (π : Projection) (cs : List Column) (s : ℕ) (t : Bool) (n : ℕ) → length cs ≡ size π → s < 4 ^ π .rows →
-    Walked (π .rows) (π .matrix) cs s t n → isCodeword π cs ≡ verdict (eqb s 0) (eqb n 0) (eqb n (size π)) t (wanted (π .rule) true)
+pub is-codeword-by : (π : Projection) (cs : List Column) (s : ℕ) (t : Bool) (n : ℕ) → length cs ≡ size π → s < 4 ^ π .rows →
+    Walked (π .rows) (π .matrix) cs s t n → isCodeword π cs ≡ codewordBy (eqb s 0) (eqb n 0) (eqb n (size π)) t (wanted (π .rule) true)
 unfolding isCodeword
-judged π cs s t n long h w =
-    let z : isZeroV (syndromeOf π cs) ≡ eqb s 0 = ap isZeroV (sym (w .syndromes)) ∙ packed-zero (π .rows) s h in
-    let even : allParity false cs ≡ eqb n 0 = all-even cs ∙ ap (λ (k : ℕ). eqb k 0) (sym (w .odd)) in
-    let odd : allParity true cs ≡ eqb n (size π) = all-odd cs ∙ ap₂ eqb (sym (w .odd)) long in
-    let tops = sym (w .tops) in
-    let of-even = wanted-even (π .rule) in
-    λ i. z i && (even i && Bool·beq (tops i) (of-even i)) || z i && (odd i && Bool·beq (tops i) (wanted (π .rule) true))
+is-codeword-by π cs s t n long h w =
+    let z : isZeroV (syndromeOf π cs) ≡ eqb s 0 = rw (← w .syndromes) (packed-zero (π .rows) s h) in
+    let even : allParity false cs ≡ eqb n 0 = rw (w .odd) (all-even cs) in
+    let odd : allParity true cs ≡ eqb n (size π) = rw (w .odd, ← long) (all-odd cs) in
+    rw (z, even, odd, ← w .tops, wanted-even (π .rule))

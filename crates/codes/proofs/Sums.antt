@@ -1,7 +1,6 @@
 -- Exclusive or and or of numbers, digit by digit: words as numbers add column by column, packed vectors symbol by symbol.
 -- Where a base is a power of two, an operation that goes bit by bit goes digit by digit: it commutes with taking a number's quotient
 -- and its remainder by a power of two, so one digit of its result is what it makes of two digits, and that is a test over all digits.
--- Assumes nothing.
 use mathlib.Core.Path.{_≡_, refl, sym, ap, ap₂, _∙_}
 use mathlib.Core.Bool.{_||_, Bool-discrete}
 use mathlib.Core.List.{List, [], _∷_}
@@ -50,7 +49,7 @@ module _ {A : Type 0} (d : Digit A) (fit : Fit d) (w : ℕ) (power : d .base ≡
   digits-op : (k a b : ℕ) → digits d k (op a b) ≡ zip f (digits d k a) (digits d k b)
   digits-op zero a b = refl
   digits-op (suc k) a b =
-      let e : d .base ^ k ≡ 2 ^ (w * k) = ap (λ (x : ℕ). x ^ k) power ∙ pow-mul 2 w k in
+      let e : d .base ^ k ≡ 2 ^ (w * k) = rw power (pow-mul 2 w k) in
       ap₂ _∷_
       (ap (d .lowest) (rw e (bitwise .quotient a b (w * k))) ∙ lowest-op (a / d .base ^ k) (b / d .base ^ k))
       (digits-op k a b)
@@ -71,7 +70,7 @@ digits-add r a b = digits-op symbols symbols-fit 2 refl Symbol-discrete bitXor x
 zip-sum : (a b : List Column) → zip _⊕_ a b ≡ a ⊞ b
 zip-sum [] b = refl
 zip-sum (x ∷ xs) [] = refl
-zip-sum (x ∷ xs) (y ∷ ys) = ap (λ (l : List Column). (x ⊕ y) ∷ l) (zip-sum xs ys)
+zip-sum (x ∷ xs) (y ∷ ys) = rw (zip-sum xs ys)
 
 pub columns-xor : (k a b : ℕ) → digits columns k (bitXor a b) ≡ digits columns k a ⊞ digits columns k b
 columns-xor k a b =

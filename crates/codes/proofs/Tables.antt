@@ -1,6 +1,5 @@
 -- The four codes can be searched: beside what the theory asks of each code, the tests of its table of entries, whatever the rule.
 -- The tests are computed, at all packed syndromes of both matrices.
--- Assumes nothing.
 use Rattle.codes.specs.declared.code.Code.{Code}
 use Rattle.codes.specs.Codes.{projection}
 use Rattle.codes.proofs.Codes.{by-length, width-le, systematic, apart}

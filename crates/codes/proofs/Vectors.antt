@@ -1,7 +1,6 @@
 -- Vectors of symbols add as symbols do, and the syndrome is linear in the values.
 -- By induction on the vectors, from the laws of symbols. Where one of two vectors ends it counts as zero, so that the laws of sums need no
 -- lengths; that two vectors with a zero sum are equal, and that the syndrome of a sum is the sum of syndromes, holds at equal lengths.
--- Assumes nothing.
 use mathlib.Core.Path.{_≡_, refl, sym, ap, ap₂, _∙_}
 use mathlib.Core.Bool.{Bool, true, _&&_, and-eq-true-iff}
 use mathlib.Core.List.{List, [], _∷_}
@@ -30,9 +29,7 @@ addV-assoc (x ∷ xs) (y ∷ ys) (z ∷ zs) = ap₂ _∷_ (add-assoc x y z) (add
 
 addV-swap : (a b c d : List Symbol) → addV (addV a b) (addV c d) ≡ addV (addV a c) (addV b d)
 addV-swap a b c d =
-    addV-assoc a b (addV c d)
-    ∙ ap (addV a) (sym (addV-assoc b c d) ∙ ap (λ (x : List Symbol). addV x d) (addV-comm b c) ∙ addV-assoc c b d)
-    ∙ sym (addV-assoc a c (addV b d))
+    rw (addV-assoc a b (addV c d), ← addV-assoc b c d, addV-comm b c, addV-assoc c b d, addV-assoc a c (addV b d))
 
 pub scale-add : (a b : Symbol) (h : List Symbol) → scale (add a b) h ≡ addV (scale a h) (scale b h)
 scale-add a b [] = refl
@@ -52,7 +49,7 @@ add-zero-vector [] y e = e
 add-zero-vector (x ∷ xs) [] e = refl
 add-zero-vector (x ∷ xs) (y ∷ ys) e =
     let both = and-eq-true-iff (isZero y) (isZeroV ys) .0 e in
-    ap₂ _&&_ (ap (λ (z : Symbol). isZero (add x z)) (zero-symbol y (both .0)) ∙ ap isZero (add-zero x)) (add-zero-vector xs ys (both .1))
+    rw (zero-symbol y (both .0), add-zero x, add-zero-vector xs ys (both .1))
 
 pub zero-is-zeros : (x : List Symbol) → isZeroV x ≡ true → x ≡ zeros (length x)
 zero-is-zeros [] e = refl
@@ -62,7 +59,7 @@ zero-is-zeros (x ∷ xs) e =
 
 addV-zeros : (n : ℕ) → addV (zeros n) (zeros n) ≡ zeros n
 addV-zeros zero = refl
-addV-zeros (suc n) = ap (λ (x : List Symbol). s0 ∷ x) (addV-zeros n)
+addV-zeros (suc n) = rw (addV-zeros n)
 
 -- a vector added to itself is zero, and two vectors of one length whose sum is zero are equal
 pub addV-self : (x : List Symbol) → isZeroV (addV x x) ≡ true

@@ -2,8 +2,7 @@
 -- top bit to the top row's parity and its parity to the number of odd columns. What is collected of the columns behind one, and that
 -- column, make up what is collected from there on: packed vectors add by exclusive or, and the syndrome, the top row's parity and the
 -- number of odd columns are all defined by the first column and the rest.
--- Assumes nothing.
-use mathlib.Core.Path.{_≡_, refl, sym, ap, ap₂, _∙_, subst₂}
+use mathlib.Core.Path.{_≡_, refl, _∙_}
 use mathlib.Core.Bool.{Bool, true, false, not, Bool·beq, and-eq-true-iff}
 use mathlib.Core.List.{List, [], _∷_, map}
 use Prim.Native.Nat.{ℕ, zero, suc, _+_, _≤_, _<_}
@@ -13,15 +12,15 @@ use lib.Bits.{bitXor}
 use lib.Dec.{eqb}
 use lib.ListN.{length, getD, take, drop, drop-of-length-le, List·getD-map, length-map}
 use lib.Seq.{drop-cons, drop-length, getD-take, length-take-le}
-use Rattle.symbols.specs.Symbol.{_⊻_, Symbol}
+use Rattle.symbols.specs.Symbol.{Symbol}
 use Rattle.symbols.specs.Column.{Column, value, parity, top, one, columnOf}
 use Rattle.symbols.proofs.Symbols.{xor-comm, unequal-xor}
 use Rattle.symbols.proofs.Columns.{one-le}
-use Rattle.codes.specs.Digits.{symbols, digits, numberOf}
-use Rattle.codes.specs.Vector.{addV, scale}
+use Rattle.codes.specs.Digits.{symbols, numberOf}
+use Rattle.codes.specs.Vector.{scale}
 use Rattle.codes.specs.Projection.{Projection, size}
 use Rattle.codes.specs.Word.{syndrome, topRow}
-use Rattle.codes.specs.Walk.{held, odds, Walked}
+use Rattle.codes.specs.ContractsOfWalk.{held, odds, Walked}
 use Rattle.codes.proofs.Digits.{symbols-fit, digits-again}
 use Rattle.codes.proofs.Vectors.{addV-comm, shaped, length-scale}
 use Rattle.codes.proofs.Words.{count-cons}
@@ -38,11 +37,9 @@ walked-more : (r : ℕ) (h : List Symbol) (H : List (List Symbol)) (c : Column) 
 walked-more r h H c cs s t n g eh eg w =
     record {
       syndromes =
-          digits-add r s g
-          ∙ ap₂ addV (w .syndromes)
-          (ap (digits symbols r) eg ∙ digits-again symbols symbols-fit r (scale (value c) h) (length-scale (value c) h ∙ eh))
-          ∙ addV-comm (syndrome r H (map value cs)) (scale (value c) h);
-      tops = unequal-xor t (top c) ∙ ap (λ (b : Bool). b ⊻ top c) (w .tops) ∙ xor-comm (topRow cs) (top c);
+          rw (digits-add r s g, w .syndromes, eg, digits-again symbols symbols-fit r (scale (value c) h) (length-scale (value c) h ∙ eh))
+          (addV-comm (syndrome r H (map value cs)) (scale (value c) h));
+      tops = rw (unequal-xor t (top c), w .tops) (xor-comm (topRow cs) (top c));
       odd = omega (arith, w .odd, count-cons (parity c) (map parity cs));
     }
 
@@ -59,14 +56,12 @@ module _ (π : Projection) (a : List ℕ) (room : size π ≤ length a) where
 
   pub held-from : (j : ℕ) → j < size π → drop j (held π a) ≡ columnOf (getD a j 0) ∷ drop (suc j) (held π a)
   held-from j h =
-      drop-cons (held π a) j (columnOf 0) (omega (arith, length-held))
-      ∙ ap (λ (c : Column). c ∷ drop (suc j) (held π a)) (List·getD-map columnOf (take (size π) a) j 0 ∙ ap columnOf (getD-take (size π) a j 0 h))
+      rw (drop-cons (held π a) j (columnOf 0) (omega (arith, length-held)), List·getD-map columnOf (take (size π) a) j 0, getD-take (size π) a j 0 h)
 
   -- the walk over it: all columns are ahead; then column j joins those behind it
   pub walk-start : Walked (π .rows) (drop (size π) (π .matrix)) (drop (size π) (held π a)) 0 false 0
   walk-start =
-      subst₂ (λ (H : List (List Symbol)) (cs : List Column). Walked (π .rows) H cs 0 false 0)
-      (sym (drop-length (π .matrix))) (sym (drop-of-length-le (held π a) {i = size π} (omega (arith, length-held)))) (walked-none (π .rows))
+      rw (drop-length (π .matrix), drop-of-length-le (held π a) {i = size π} (omega (arith, length-held))) (walked-none (π .rows))
 
   pub walk-step : shaped (π .rows) (π .matrix) ≡ true → (j : ℕ) → j < size π → (s : ℕ) (t : Bool) (n g : ℕ) →
       g ≡ numberOf symbols (scale (value (columnOf (getD a j 0))) (getD (π .matrix) j [])) →
@@ -75,8 +70,7 @@ module _ (π : Projection) (a : List ℕ) (room : size π ≤ length a) where
       (bitXor s g) (not (Bool·beq t (top (columnOf (getD a j 0))))) (n + one (parity (columnOf (getD a j 0))))
   walk-step shape j h s t n g eg w =
       let c = columnOf (getD a j 0) in
-      subst₂ (λ (H : List (List Symbol)) (cs : List Column). Walked (π .rows) H cs (bitXor s g) (not (Bool·beq t (top c))) (n + one (parity c)))
-      (sym (drop-cons (π .matrix) j [] h)) (sym (held-from j h))
+      rw (drop-cons (π .matrix) j [] h, held-from j h)
       (walked-more (π .rows) (getD (π .matrix) j []) (drop (suc j) (π .matrix)) c (drop (suc j) (held π a)) s t n g
       (shaped-at (π .rows) (π .matrix) j shape h) eg w)
 

@@ -1,7 +1,6 @@
 -- Words add column by column: lengths, values, syndromes, top rows and parities of a sum, and the sum of two codewords of one code.
 -- Value, parity and top bit of a column add, and the syndrome is linear. So a sum of codewords has a zero syndrome, columns of the parity
 -- p ⊻ q where the two have p and q, and a top row of the parity that the rule wants, since each rule is linear in p.
--- Assumes nothing.
 use mathlib.Core.Path.{_≡_, refl, sym, ap, ap₂, _∙_}
 use mathlib.Core.Bool.{Bool, true, false, _&&_, _||_, Bool·beq, Bool-discrete, and-eq-true-iff, or-true}
 use mathlib.Core.List.{List, [], _∷_, map}
@@ -16,7 +15,7 @@ use Rattle.symbols.proofs.Columns.{value-add, parity-add, top-add}
 use Rattle.codes.specs.Digits.{columns}
 use Rattle.codes.specs.Vector.{addV, isZeroV}
 use Rattle.codes.specs.Projection.{Projection, TopRule, ruleO, ruleE, wanted, count, size}
-use Rattle.codes.specs.Word.{word, _⊞_, syndrome, syndromeOf, allParity, topRow, isCodewordOf, isCodeword}
+use Rattle.codes.specs.Word.{word, _⊞_, syndromeOf, allParity, topRow, isCodewordOf, isCodeword}
 use Rattle.codes.proofs.Vectors.{add-zero-vector, syndrome-add}
 use Rattle.codes.proofs.Digits.{length-digits}
 
@@ -40,15 +39,14 @@ values-sum (a ∷ xs) (b ∷ ys) e = ap₂ _∷_ (value-add a b) (values-sum xs 
 pub syndrome-sum : (π : Projection) (a b : List Column) → length a ≡ length b →
     syndromeOf π (a ⊞ b) ≡ addV (syndromeOf π a) (syndromeOf π b)
 syndrome-sum π a b e =
-    ap (syndrome (π .rows) (π .matrix)) (values-sum a b e)
-    ∙ syndrome-add (π .rows) (π .matrix) (map value a) (map value b) (length-map a value ∙ e ∙ sym (length-map b value))
+    rw (values-sum a b e) (syndrome-add (π .rows) (π .matrix) (map value a) (map value b) (length-map a value ∙ e ∙ sym (length-map b value)))
 
 pub topRow-sum : (a b : List Column) → length a ≡ length b → topRow (a ⊞ b) ≡ topRow a ⊻ topRow b
 topRow-sum [] [] e = refl
 topRow-sum [] (b ∷ ys) e = absurd (omega arith)
 topRow-sum (a ∷ xs) [] e = absurd (omega arith)
 topRow-sum (a ∷ xs) (b ∷ ys) e =
-    ap₂ _⊻_ (top-add a b) (topRow-sum xs ys (omega arith)) ∙ xor-swap (top a) (top b) (topRow xs) (topRow ys)
+    rw (top-add a b, topRow-sum xs ys (omega arith)) (xor-swap (top a) (top b) (topRow xs) (topRow ys))
 
 -- two bits that a test finds equal, and the test of equal bits
 pub beq-true : (a b : Bool) → Bool·beq a b ≡ true → a ≡ b
@@ -65,14 +63,14 @@ pub parity-rest : (p : Bool) (c : Column) (cs : List Column) → allParity p (c 
 parity-rest p c cs e = and-eq-true-iff (Bool·beq (parity c) p) (allParity p cs) .0 e .1
 
 pub parity-cons : (p : Bool) (c : Column) (cs : List Column) → parity c ≡ p → allParity p cs ≡ true → allParity p (c ∷ cs) ≡ true
-parity-cons p c cs e t = ap₂ _&&_ (eq-beq (parity c) p e) t
+parity-cons p c cs e t = rw (eq-beq (parity c) p e, t)
 
 pub parity-sum : (p q : Bool) (a b : List Column) → allParity p a ≡ true → allParity q b ≡ true → allParity (p ⊻ q) (a ⊞ b) ≡ true
 parity-sum p q [] b s t = refl
 parity-sum p q (a ∷ xs) [] s t = refl
 parity-sum p q (a ∷ xs) (b ∷ ys) s t =
     parity-cons (p ⊻ q) (a ⊕ b) (xs ⊞ ys)
-    (parity-add a b ∙ ap₂ _⊻_ (parity-first p a xs s) (parity-first q b ys t))
+    (rw (parity-add a b, parity-first p a xs s, parity-first q b ys t))
     (parity-sum p q xs ys (parity-rest p a xs s) (parity-rest q b ys t))
 
 -- the number of trues in a list, by its first
@@ -93,7 +91,7 @@ codeword-parts π p cs e =
     record { zero = both .0; parities = rest .0; tops = beq-true (topRow cs) (wanted (π .rule) p) (rest .1) }
 
 pub codeword-passes : (π : Projection) (p : Bool) (cs : List Column) → Codeword π p cs → isCodewordOf π p cs ≡ true
-codeword-passes π p cs k = ap₂ _&&_ (k .zero) (ap₂ _&&_ (k .parities) (eq-beq (topRow cs) (wanted (π .rule) p) (k .tops)))
+codeword-passes π p cs k = rw (k .zero, k .parities, eq-beq (topRow cs) (wanted (π .rule) p) (k .tops))
 
 -- a codeword has one of the two parities
 pub codeword-parity : (π : Projection) (cs : List Column) → isCodeword π cs ≡ true → (p : Bool) × Codeword π p cs
@@ -106,8 +104,8 @@ codeword-parity π cs e = go (isCodewordOf π false cs) refl e
 
 pub is-codeword : (π : Projection) (p : Bool) (cs : List Column) → Codeword π p cs → isCodeword π cs ≡ true
 unfolding isCodeword
-is-codeword π false cs k = ap (λ (b : Bool). b || isCodewordOf π true cs) (codeword-passes π false cs k)
-is-codeword π true cs k = ap (λ (b : Bool). isCodewordOf π false cs || b) (codeword-passes π true cs k) ∙ or-true (isCodewordOf π false cs)
+is-codeword π false cs k = rw (codeword-passes π false cs k)
+is-codeword π true cs k = rw (codeword-passes π true cs k) (or-true (isCodewordOf π false cs))
 
 pub wanted-even : (r : TopRule) → wanted r false ≡ false
 wanted-even ruleO = refl
@@ -121,7 +119,7 @@ pub codeword-sum : (π : Projection) (p q : Bool) (a b : List Column) → length
     Codeword π (p ⊻ q) (a ⊞ b)
 codeword-sum π p q a b e s t =
     record {
-      zero = ap isZeroV (syndrome-sum π a b e) ∙ add-zero-vector (syndromeOf π a) (syndromeOf π b) (t .zero) ∙ s .zero;
+      zero = rw (syndrome-sum π a b e, add-zero-vector (syndromeOf π a) (syndromeOf π b) (t .zero)) (s .zero);
       parities = parity-sum p q a b (s .parities) (t .parities);
-      tops = topRow-sum a b e ∙ ap₂ _⊻_ (s .tops) (t .tops) ∙ sym (wanted-sum (π .rule) p q);
+      tops = rw (topRow-sum a b e, s .tops, t .tops, wanted-sum (π .rule) p q);
     }

@@ -1,20 +1,25 @@
 -- What a call answers, in document 01's numbers, and how its refusals are ordered ('Refusals by what comes back').
--- Assumes nothing.
 use mathlib.Core.Bool.{Bool, cond}
 use mathlib.Core.List.{List, [], _∷_}
 use Prim.Native.Nat.{ℕ}
 
--- accepted with values, or refused with a number alone
-pub data Answer : Type 0 where
-  accepted : List ℕ → Answer
-  refused : ℕ → Answer
+-- accepted with a value, or refused with a number alone
+pub data Answer (A : Type 0) : Type 0 where
+  accepted : A → Answer A
+  refused : ℕ → Answer A
+
+-- an answer with its value put in another form
+abbrev pub mapAnswer : {A B : Type 0} → (A → B) → Answer A → Answer B
+mapAnswer f (accepted v) = accepted (f v)
+mapAnswer f (refused n) = refused n
 
 -- a refusal of a call: its number, and whether it is met
 pub record Row : Type 0 where
   pub number : ℕ
   pub met : Bool
 
--- 'The smallest number that applies is returned, alone': the rows of a call stand in the order of their numbers
-abbrev pub unless : List Row → Answer → Answer
+-- the first row of a call's table that is met is returned, alone ('The smallest number that applies is returned, alone': document 01's
+-- rows stand in the order of their numbers)
+abbrev pub unless : {A : Type 0} → List Row → Answer A → Answer A
 unless [] a = a
 unless (r ∷ rs) a = cond (r .met) (refused (r .number)) (unless rs a)

@@ -1,7 +1,6 @@
 -- The claims about the four codes (demand 2 and the word calls' part of demand 1; document 01, 'Columns and their values', 'The four codes',
 -- 'Mending' and 'Refusals by what comes back'). Each is one definition, and one theorem of the same name in proofs/Claims.antt. They speak
 -- of the definitions, and so, by the contracts, of the functions.
--- Assumes nothing.
 use mathlib.Core.Path.{_≡_}
 use mathlib.Core.Bool.{true}
 use mathlib.Core.Logic.{_⊎_}
@@ -14,8 +13,8 @@ use Rattle.codes.specs.Answer.{Answer, accepted, refused}
 use Rattle.codes.specs.Projection.{Projection, size, width, messageBits}
 use Rattle.codes.specs.Word.{word, bitAt, isCodeword, _⊞_, distance}
 use Rattle.codes.specs.Message.{encode, decode}
-use Rattle.codes.specs.Mending.{wrong, ones, isNear}
-use Rattle.codes.specs.Codes.{projection, writing, reading, mending, under}
+use Rattle.codes.specs.Correction.{wrong, ones, Near}
+use Rattle.codes.specs.Codes.{projection, encoding, decoding, correcting, under}
 use Rattle.codes.specs.Starred.{starredWords, Each}
 
 -- ---- words
@@ -51,11 +50,11 @@ OneMessage =
     × ((n : ℕ) → n < 2 ^ messageBits (projection c) → encode (projection c) n ≡ x → n ≡ decode (projection c) x)
 
 -- strict reading accepts the codewords, and gives their message, and accepts nothing else
-abbrev pub StrictReading : Type 0
-StrictReading =
+abbrev pub DecodesCodewords : Type 0
+DecodesCodewords =
     (c : Code) (x : ℕ) →
-    (IsCodeword c x → reading (projection c) x ≡ accepted (decode (projection c) x ∷ []))
-    × ((values : List ℕ) → reading (projection c) x ≡ accepted values → IsCodeword c x)
+    (IsCodeword c x → decoding (projection c) x ≡ accepted (decode (projection c) x ∷ []))
+    × ((values : List ℕ) → decoding (projection c) x ≡ accepted values → IsCodeword c x)
 
 -- the sum of two codewords of one code is a codeword
 abbrev pub SumOfCodewords : Type 0
@@ -67,35 +66,31 @@ abbrev pub EightApart : Type 0
 EightApart =
     (c : Code) (x y : ℕ) → IsCodeword c x → IsCodeword c y → (x ≡ y → ⊥) → 8 ≤ distance (word (projection c) x) (word (projection c) y)
 
--- a codeword that is near a word under marks
-abbrev pub IsNear : Code → ℕ → ℕ → ℕ → Type 0
-IsNear c w m x = IsCodeword c x × (isNear (projection c) w m x ≡ true)
-
 -- 'A codeword is near if 2·wrong + marks is at most 7; there is at most one'
 abbrev pub OneNear : Type 0
-OneNear = (c : Code) (w m x y : ℕ) → IsNear c w m x → IsNear c w m y → x ≡ y
+OneNear = (c : Code) (w m x y : ℕ) → Near (projection c) w m x → Near (projection c) w m y → x ≡ y
 
 -- where 2·wrong + marks is exactly 8 for a codeword, none is near
 abbrev pub EightIsFar : Type 0
 EightIsFar =
     (c : Code) (w m x : ℕ) → IsCodeword c x → 2 * wrong (projection c) w m x + ones (projection c) m ≡ 8 →
-    (y : ℕ) → IsNear c w m y → ⊥
+    (y : ℕ) → Near (projection c) w m y → ⊥
 
 -- 'The answer is the codeword, its message, wrong and the number of marks': given exactly where that codeword is near
-abbrev pub MendsNear : Type 0
-MendsNear =
+abbrev pub CorrectsNear : Type 0
+CorrectsNear =
     (c : Code) (w m : ℕ) → w < 2 ^ width (projection c) → m < 2 ^ width (projection c) →
-    ((x : ℕ) → IsNear c w m x →
-    mending (projection c) w m ≡ accepted (x ∷ decode (projection c) x ∷ wrong (projection c) w m x ∷ ones (projection c) m ∷ []))
-    × ((values : List ℕ) → mending (projection c) w m ≡ accepted values →
-    (x : ℕ) × IsNear c w m x × (values ≡ x ∷ decode (projection c) x ∷ wrong (projection c) w m x ∷ ones (projection c) m ∷ []))
+    ((x : ℕ) → Near (projection c) w m x →
+    correcting (projection c) w m ≡ accepted (x ∷ decode (projection c) x ∷ wrong (projection c) w m x ∷ ones (projection c) m ∷ []))
+    × ((values : List ℕ) → correcting (projection c) w m ≡ accepted values →
+    (x : ℕ) × Near (projection c) w m x × (values ≡ x ∷ decode (projection c) x ∷ wrong (projection c) w m x ∷ ones (projection c) m ∷ []))
 
 -- 'no near codeword': refusal 5, exactly there
 abbrev pub RefusesFar : Type 0
 RefusesFar =
     (c : Code) (w m : ℕ) → w < 2 ^ width (projection c) → m < 2 ^ width (projection c) →
-    (((x : ℕ) → IsNear c w m x → ⊥) → mending (projection c) w m ≡ refused 5)
-    × (mending (projection c) w m ≡ refused 5 → (x : ℕ) → IsNear c w m x → ⊥)
+    (((x : ℕ) → Near (projection c) w m x → ⊥) → correcting (projection c) w m ≡ refused 5)
+    × (correcting (projection c) w m ≡ refused 5 → (x : ℕ) → Near (projection c) w m x → ⊥)
 
 -- 'Starred ones are theorems'
 abbrev pub Starred : Type 0
@@ -108,11 +103,11 @@ abbrev pub Among : ℕ → List ℕ → Type 0
 Among n [] = ⊥
 Among n (x ∷ xs) = (n ≡ x) ⊎ Among n xs
 
-abbrev pub RefusedBy : List ℕ → Answer → Type 0
+abbrev pub RefusedBy : {A : Type 0} → List ℕ → Answer A → Type 0
 RefusedBy numbers a = (n : ℕ) → a ≡ refused n → Among n numbers
 
 -- 'Unfit input gets one of the thirteen refusal numbers of document 01': those that its table gives each word call
 pub record WordCallsRefuse : Type 0 where
-  pub writings : (code message : ℕ) → RefusedBy (1 ∷ 2 ∷ []) (under code (λ π. writing π message))
-  pub readings : (code word : ℕ) → RefusedBy (1 ∷ 3 ∷ 4 ∷ []) (under code (λ π. reading π word))
-  pub mendings : (code word marks : ℕ) → RefusedBy (1 ∷ 3 ∷ 5 ∷ []) (under code (λ π. mending π word marks))
+  pub encodings : (code message : ℕ) → RefusedBy (1 ∷ 2 ∷ []) (under code (λ π. encoding π message))
+  pub decodings : (code word : ℕ) → RefusedBy (1 ∷ 3 ∷ 4 ∷ []) (under code (λ π. decoding π word))
+  pub corrections : (code word marks : ℕ) → RefusedBy (1 ∷ 3 ∷ 5 ∷ []) (under code (λ π. correcting π word marks))

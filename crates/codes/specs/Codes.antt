@@ -1,7 +1,7 @@
 -- The four codes by their numbers, and what each word call answers (document 01, 'The four codes' and 'Refusals by what comes back').
--- Assumes nothing.
 use mathlib.Core.Bool.{Bool, not, cond, _&&_}
 use mathlib.Core.List.{List, [], _∷_}
+use mathlib.Core.Option.{Option, none, some}
 use Prim.Native.Nat.{ℕ, _-_, _/_, _^_}
 use lib.Dec.{leb}
 use lib.ListN.{length, getD}
@@ -12,12 +12,13 @@ use Rattle.codes.specs.declared.answer.Refusal.{Refusal}
 use Rattle.codes.specs.declared.answer.Refusal.the-variants.{UnknownCode, MessageTooLarge, WordTooWide, NotACodeword, NoneNear}
 use Rattle.codes.specs.declared.answer.Encoded.{Encoded}
 use Rattle.codes.specs.declared.answer.Decoded.{Decoded}
+use Rattle.codes.specs.declared.answer.Correction.{Correction}
 use Rattle.codes.specs.declared.answer.Corrected.{Corrected}
 use Rattle.codes.specs.Answer.{Answer, accepted, refused, Row, unless}
 use Rattle.codes.specs.Projection.{Projection, ruleO, ruleE, nine, ten, width, messageBits}
 use Rattle.codes.specs.Word.{word, isCodeword}
 use Rattle.codes.specs.Message.{encode, decode}
-use Rattle.codes.specs.Mending.{Mended, near, none, mend}
+use Rattle.codes.specs.Correction.{correct}
 
 abbrev pub projection : Code → Projection
 projection O36 = nine ruleO
@@ -51,22 +52,26 @@ refusalNumber WordTooWide = 3
 refusalNumber NotACodeword = 4
 refusalNumber NoneNear = 5
 
+-- the values of a correction, in the order in which mending answers them
+abbrev pub correctionValues : Correction → List ℕ
+correctionValues c = c .codeword ∷ c .message ∷ c .wrong ∷ c .marks ∷ []
+
 -- the number and values of each case of an answer
-abbrev pub encodedAnswer : Encoded → Answer
+abbrev pub encodedAnswer : Encoded → Answer (List ℕ)
 encodedAnswer (Encoded.Word w) = accepted (w ∷ [])
 encodedAnswer (Encoded.Refused r) = refused (refusalNumber r)
 
-abbrev pub decodedAnswer : Decoded → Answer
+abbrev pub decodedAnswer : Decoded → Answer (List ℕ)
 decodedAnswer (Decoded.Message m) = accepted (m ∷ [])
 decodedAnswer (Decoded.Refused r) = refused (refusalNumber r)
 
-abbrev pub correctedAnswer : Corrected → Answer
-correctedAnswer (Corrected.Near c) = accepted (c .codeword ∷ c .message ∷ c .wrong ∷ c .marks ∷ [])
+abbrev pub correctedAnswer : Corrected → Answer (List ℕ)
+correctedAnswer (Corrected.Near c) = accepted (correctionValues c)
 correctedAnswer (Corrected.Refused r) = refused (refusalNumber r)
 
-abbrev pub mendedAnswer : Mended → Answer
-mendedAnswer (near c m w k) = accepted (c ∷ m ∷ w ∷ k ∷ [])
-mendedAnswer none = refused (refusalNumber NoneNear)
+abbrev pub correctionAnswer : Option Correction → Answer (List ℕ)
+correctionAnswer (some c) = accepted (correctionValues c)
+correctionAnswer none = refused (refusalNumber NoneNear)
 
 -- the rows of the table of refusals
 abbrev pub unknownCode : ℕ → Row
@@ -81,16 +86,16 @@ wordTooWide π w = record { number = 3; met = leb (2 ^ width π) w }
 abbrev pub notACodeword : Projection → ℕ → Row
 notACodeword π w = record { number = 4; met = not (isCodeword π (word π w)) }
 
--- writing, strict reading and mending under a code
-abbrev pub writing : Projection → ℕ → Answer
-writing π m = unless (messageTooLarge π m ∷ []) (accepted (encode π m ∷ []))
+-- writing, strict reading and mending under a code: encoding, decoding and correcting
+abbrev pub encoding : Projection → ℕ → Answer (List ℕ)
+encoding π m = unless (messageTooLarge π m ∷ []) (accepted (encode π m ∷ []))
 
-abbrev pub reading : Projection → ℕ → Answer
-reading π w = unless (wordTooWide π w ∷ notACodeword π w ∷ []) (accepted (decode π w ∷ []))
+abbrev pub decoding : Projection → ℕ → Answer (List ℕ)
+decoding π w = unless (wordTooWide π w ∷ notACodeword π w ∷ []) (accepted (decode π w ∷ []))
 
-abbrev pub mending : Projection → ℕ → ℕ → Answer
-mending π w m = unless (wordTooWide π w ∷ wordTooWide π m ∷ []) (mendedAnswer (mend π w m))
+abbrev pub correcting : Projection → ℕ → ℕ → Answer (List ℕ)
+correcting π w m = unless (wordTooWide π w ∷ wordTooWide π m ∷ []) (correctionAnswer (correct π w m))
 
 -- a word call names a code by its number
-abbrev pub under : ℕ → (Projection → Answer) → Answer
+abbrev pub under : ℕ → (Projection → Answer (List ℕ)) → Answer (List ℕ)
 under n call = unless (unknownCode n ∷ []) (call (projection (codeOf n)))

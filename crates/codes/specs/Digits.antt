@@ -1,10 +1,9 @@
 -- Numbers written in digits, highest first: words in columns, vectors in symbols, messages in bits.
--- Assumes nothing.
 use mathlib.Core.Bool.{Bool}
 use mathlib.Core.List.{List, [], _∷_}
 use Prim.Native.Nat.{ℕ, zero, suc, _+_, _*_, _/_, _^_}
 use lib.ListN.{length}
-use Rattle.symbols.specs.Symbol.{Symbol, bit, symbolOf, symbolNumber}
+use Rattle.symbols.specs.Symbol.{Symbol, hasBit, symbolOf, symbolNumber}
 use Rattle.symbols.specs.Column.{Column, one, columnOf, columnNumber}
 
 -- a type of digits: its base, a number's lowest digit, and a digit's number
@@ -14,7 +13,7 @@ pub record Digit (A : Type 0) : Type 0 where
   pub number : A → ℕ
 
 abbrev pub bits : Digit Bool
-bits = record { base = 2; lowest = bit 0; number = one }
+bits = record { base = 2; lowest = hasBit 0; number = one }
 
 abbrev pub symbols : Digit Symbol
 symbols = record { base = 4; lowest = symbolOf; number = symbolNumber }

@@ -1,9 +1,8 @@
 -- Messages and their codewords (document 01, 'The four codes').
--- Assumes nothing.
 use mathlib.Core.Bool.{Bool, true, false}
 use mathlib.Core.List.{List, [], _∷_, map}
 use Prim.Native.Nat.{ℕ, _+_, _*_, _/_, _^_}
-use Rattle.symbols.specs.Symbol.{_⊻_, Symbol, s0, bit}
+use Rattle.symbols.specs.Symbol.{_⊻_, Symbol, s0, hasBit}
 use Rattle.symbols.specs.Column.{Column, value, parity, top, one, columnWith}
 use Rattle.codes.specs.Digits.{bits, symbols, digits, numberOf}
 use Rattle.codes.specs.Projection.{Projection, wanted, count, topBits}
@@ -18,7 +17,7 @@ pub record Message : Type 0 where
 abbrev pub messageOf : Projection → ℕ → Message
 messageOf π n =
     record {
-      parity = bit (2 * count (π .free) + topBits π) n;
+      parity = hasBit (2 * count (π .free) + topBits π) n;
       values = digits symbols (count (π .free)) (n / 2 ^ topBits π);
       tops = digits bits (topBits π) n;
     }

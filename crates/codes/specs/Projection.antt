@@ -1,6 +1,5 @@
 -- What makes a code: its check matrix, its top rule and its free columns (document 01, 'The check matrices' and 'The four codes').
 -- Everything else in this crate is defined over any such code.
--- Assumes nothing.
 use mathlib.Core.Bool.{Bool, true, false}
 use mathlib.Core.List.{List, [], _∷_}
 use Prim.Native.Nat.{ℕ, suc, _+_, _-_, _*_}

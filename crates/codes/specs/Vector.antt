@@ -1,5 +1,4 @@
 -- Vectors of symbols. Where one of two vectors that are added ends, it counts as zero from there on.
--- Assumes nothing.
 use mathlib.Core.Bool.{Bool, true, _&&_}
 use mathlib.Core.List.{List, [], _∷_}
 use Prim.Native.Nat.{ℕ}

@@ -5,7 +5,7 @@
 mod answer;
 mod calls;
 mod code;
-mod mend;
+mod correction;
 mod message;
 mod search;
 mod table;
@@ -16,8 +16,8 @@ pub use answer::Correction;
 pub use answer::Decoded;
 pub use answer::Encoded;
 pub use answer::Refusal;
+pub use calls::correct;
 pub use calls::decode;
 pub use calls::encode;
 pub use code::Code;
 pub use code::CodeFound;
-pub use mend::correct;

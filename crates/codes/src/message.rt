@@ -6,17 +6,17 @@ ghost use mathlib.Core.Path.{_≡_};
 ghost use mathlib.Core.Bool.{cond};
 ghost use Prim.Native.Nat.{_+_, _-_, _*_, _/_, _^_, _<_};
 ghost use lib.ListN.{drop};
-ghost use Rattle.symbols.specs.Symbol.{symbolOf, symbolNumber, bit};
+ghost use Rattle.symbols.specs.Symbol.{symbolOf, symbolNumber, hasBit};
 ghost use Rattle.symbols.specs.Column.{value, columnOf, columnWith};
 ghost use Rattle.codes.specs.Projection.{size, topBits, messageBits};
 ghost use Rattle.codes.specs.Codes.{projection};
 ghost use Rattle.codes.specs.Message.{messageOf, codewordOf, messageIn, messageNumber};
-ghost use Rattle.codes.specs.Walk.{held, valueAt, drafted, highPart};
+ghost use Rattle.codes.specs.ContractsOfWalk.{held, valueAt, drafted, highPart};
 
-// A bit of a number, counted from the lowest.
-fn bit_of(number: u64, place: u64) -> bool
+// Whether a bit of a number is one, counted from the lowest.
+fn has_bit(number: u64, place: u64) -> bool
     requires { ⌜ place < 64 ⌝ }
-    ensures { λ r. ⌜ r ≡ bit place number ⌝ }
+    ensures { λ r. ⌜ r ≡ hasBit place number ⌝ }
 {
     (number >> place) % 2 == 1
 }
@@ -38,10 +38,10 @@ fn value_at(code: Code, message: u64, syndrome: u8, column: usize) -> u8
 // A column of a message, with a top bit.
 fn column_at(code: Code, message: u64, syndrome: u8, column: usize, top: bool) -> u8
     requires { ⌜ column < size (projection code) ⌝ }
-    ensures { λ r. ⌜ columnOf r ≡ columnWith (bit (messageBits (projection code) - 1) message)
+    ensures { λ r. ⌜ columnOf r ≡ columnWith (hasBit (messageBits (projection code) - 1) message)
         (valueAt (drop column (projection code .free)) (message / 2 ^ topBits (projection code)) syndrome) top ⌝ }
 {
-    let parity = bit_of(message, code.message_bits() - 1);
+    let parity = has_bit(message, code.message_bits() - 1);
     symbols::column_with(parity, value_at(code, message, syndrome, column), top)
 }
 
@@ -51,10 +51,10 @@ fn draft(code: Code, message: u64, syndrome: u8) -> [u8; 10]
 {
     let last = code.columns() - 1;
     let mut columns = [0u8; 10];
-    let mut top = code.top_parity(bit_of(message, code.message_bits() - 1));
+    let mut top = code.top_parity(has_bit(message, code.message_bits() - 1));
     let mut i: usize = 0;
     while i < last {
-        let bit = bit_of(message, (last - 1 - i) as u64);
+        let bit = has_bit(message, (last - 1 - i) as u64);
         columns[i] = column_at(code, message, syndrome, i, bit);
         top = top ^ bit;
         i += 1;

@@ -14,7 +14,7 @@ ghost use Prim.Native.Nat.{_^_, _<_, _≤_};
 ghost use Rattle.codes.specs.Projection.{size, width};
 ghost use Rattle.codes.specs.Codes.{projection};
 ghost use Rattle.codes.specs.Word.{isCodewordOf, isCodeword};
-ghost use Rattle.codes.specs.Search.{entryTable, Tables, inverted, Begun, Seeking, Within, Sought, Hopeless, Settled};
+ghost use Rattle.codes.specs.ContractsOfSearch.{entryTable, Tables, inverted, Begun, Seeking, Within, Sought, Far, BySyndrome};
 
 // No codeword: a number above every word.
 pub(crate) const NONE: u64 = 0x100_0000_0000;
@@ -28,9 +28,9 @@ fn inverted(code: Code, x: u64, column: usize, bits: u8) -> u64
 }
 
 // Whether a syndrome alone says that no codeword is within k positions.
-fn hopeless(code: Code, table: &[u8; 256], k: u8, s: u8) -> bool
+fn is_far(code: Code, table: &[u8; 256], k: u8, s: u8) -> bool
     requires { ⌜ now table ≡ entryTable (projection code) ⌝ }
-    ensures { λ r. ⌜ (r ≡ true → Hopeless (projection code) k s) ⌝ }
+    ensures { λ r. ⌜ (r ≡ true → Far (projection code) k s) ⌝ }
 {
     if 1 < k {
         return false;
@@ -41,11 +41,11 @@ fn hopeless(code: Code, table: &[u8; 256], k: u8, s: u8) -> bool
     table[s as usize] == 0
 }
 
-// The codeword within k positions of a word x whose columns all have its parity: the word, or the word with two bits of one column
-// inverted.
-fn settle(code: Code, table: &[u8; 256], k: u8, s: u8, off: bool, x: u64) -> u64
+// The codeword that follows from the syndrome, within k positions of a word x whose columns all have its parity: the word, or the word with two
+// bits of one column inverted.
+fn by_syndrome(code: Code, table: &[u8; 256], k: u8, s: u8, off: bool, x: u64) -> u64
     requires { ⌜ (now table ≡ entryTable (projection code)) × (k ≤ 3) ⌝ }
-    ensures { λ r. ⌜ Settled (projection code) k s off x r ⌝ }
+    ensures { λ r. ⌜ BySyndrome (projection code) k s off x r ⌝ }
 {
     if s == 0 {
         if off {
@@ -69,7 +69,7 @@ fn seek(
     code: Code,
     scaled: &[u8; 40],
     table: &[u8; 256],
-    columns: &[u8; 10],
+    columns: [u8; 10],
     p: bool,
     i: usize,
     left: u8,
@@ -78,13 +78,13 @@ fn seek(
     off: bool,
     x: u64,
 ) -> u64
-    requires { ⌜ Tables (projection code) (now scaled) (now table) × Seeking (projection code) p (now columns) i left k s off x ⌝ }
+    requires { ⌜ Tables (projection code) (now scaled) (now table) × Seeking (projection code) p columns i left k s off x ⌝ }
     ensures { λ r. ⌜ Sought (Within (projection code) (isCodewordOf (projection code) p) k x) r ⌝ }
 {
     if left == 0 {
-        return settle(code, table, k, s, off, x);
+        return by_syndrome(code, table, k, s, off, x);
     }
-    if hopeless(code, table, k, s) {
+    if is_far(code, table, k, s) {
         return NONE;
     }
     let j = i - 1;
@@ -110,13 +110,13 @@ fn of_parity(
     code: Code,
     scaled: &[u8; 40],
     table: &[u8; 256],
-    columns: &[u8; 10],
+    columns: [u8; 10],
     p: bool,
     left: u8,
     walk: Walk,
     x: u64,
 ) -> u64
-    requires { ⌜ Tables (projection code) (now scaled) (now table) × Begun (projection code) p (now columns) left (walk .syndrome) (walk .top) (walk .odd) x ⌝ }
+    requires { ⌜ Tables (projection code) (now scaled) (now table) × Begun (projection code) p columns left (walk .syndrome) (walk .top) (walk .odd) x ⌝ }
     ensures { λ r. ⌜ Sought (Within (projection code) (isCodewordOf (projection code) p) 3 x) r ⌝ }
 {
     if 3 < left {
@@ -136,10 +136,10 @@ pub(crate) fn within_three(code: Code, scaled: &[u8; 40], table: &[u8; 256], x: 
     let columns = unpack(code, x);
     let walk = walk_columns(code, scaled, columns);
     let odd = walk.odd;
-    let even = of_parity(code, scaled, table, &columns, false, odd, walk, x);
+    let even = of_parity(code, scaled, table, columns, false, odd, walk, x);
     if even < NONE {
         return even;
     }
     let left = (code.columns() as u8) - odd;
-    of_parity(code, scaled, table, &columns, true, left, walk, x)
+    of_parity(code, scaled, table, columns, true, left, walk, x)
 }

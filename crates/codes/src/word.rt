@@ -12,7 +12,7 @@ ghost use Rattle.codes.specs.Vector.{scale};
 ghost use Rattle.codes.specs.Projection.{size};
 ghost use Rattle.codes.specs.Codes.{projection};
 ghost use Rattle.codes.specs.Word.{word, wordNumber};
-ghost use Rattle.codes.specs.Walk.{held, scaledColumns, Walked};
+ghost use Rattle.codes.specs.ContractsOfWalk.{held, scaledColumns, Walked};
 
 // What one walk over the columns collects: the syndrome, packed with its first row highest, the top row's parity, and
 // the number of odd columns.

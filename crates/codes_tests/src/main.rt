@@ -72,7 +72,7 @@ fn counted(bit: bool) -> u64
     if bit { 1 } else { 0 }
 }
 
-// Tries messages of a code, and tells how many come back.
+// Tries messages of a code, and writes how many come back.
 fn report(code: u64, limit: u64, stride: u64)
     requires { ⌜ (limit ≤ 4194304) × (0 < stride) × (stride ≤ 64) ⌝ }
 {

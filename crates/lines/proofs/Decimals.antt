@@ -1,9 +1,8 @@
 -- Decimal digits, one at a time: a number below ten is its own digit, any other has the digits of its tenth and then its last one; so
 -- more room than a number needs changes nothing, and a number below a power of ten has no more digits than the exponent.
--- Assumes nothing.
-use mathlib.Core.Path.{_≡_, refl, ap, _∙_}
+use mathlib.Core.Path.{_≡_, refl}
 use mathlib.Core.Bool.{Bool, true, false, cond}
-use mathlib.Core.List.{List, [], _∷_, _++_}
+use mathlib.Core.List.{[], _∷_, _++_}
 use Prim.Native.Nat.{ℕ, zero, suc, _+_, _/_, _%_, _^_, _<_, _≤_}
 use native.Mathlib.Omega.{arith}
 use lib.Dec.{ltb}
@@ -21,7 +20,7 @@ digits-enough (suc j) (suc k) n hj hk = go (ltb n 10) refl (λ h. digits-enough 
         → cond small (digit n ∷ []) (digits j (n / 10) ++ (digit (n % 10) ∷ []))
         ≡ cond small (digit n ∷ []) (digits k (n / 10) ++ (digit (n % 10) ∷ []))
     go true e same = refl
-    go false e same = ap (λ (l : List ℕ). l ++ (digit (n % 10) ∷ [])) (same (ltb-false n 10 e))
+    go false e same = rw (same (ltb-false n 10 e))
 
 pub decimal-one : (n : ℕ) → n < 10 → decimal n ≡ digit n ∷ []
 unfolding decimal digits
@@ -29,9 +28,7 @@ decimal-one n h = simp (lt-ltb n 10 h)
 
 pub decimal-more : (n : ℕ) → 10 ≤ n → decimal n ≡ decimal (n / 10) ++ (digit (n % 10) ∷ [])
 unfolding decimal digits
-decimal-more n h =
-    ap (λ (small : Bool). cond small (digit n ∷ []) (digits n (n / 10) ++ (digit (n % 10) ∷ []))) (le-ltb n 10 h)
-    ∙ ap (λ (l : List ℕ). l ++ (digit (n % 10) ∷ [])) (digits-enough n (suc (n / 10)) (n / 10) (omega arith) (omega arith))
+decimal-more n h = simp (le-ltb n 10 h, digits-enough n (suc (n / 10)) (n / 10) (omega arith) (omega arith))
 
 digits-short : (k j n : ℕ) → n < 10 ^ suc k → length (digits j n) ≤ suc k
 unfolding digits

@@ -1,33 +1,60 @@
--- The text of a listing, as the code puts it together: numbers one after the other, the endings of read and over, and each way that a
--- listing goes: too long a file, a refused one, a listed one. Each law follows one path through the definition's tests.
--- Assumes nothing.
-use mathlib.Core.Path.{_≡_, ap, _∙_}
+-- The text of a listing, as the code puts it together: numbers one after the other, a slot's line, the lines of the first slots, and each way
+-- that a listing goes: too long a file, a refused one, a listed one. Each law follows one path through the definition's tests; a slot of a
+-- surveyed file reads as it does alone.
+use mathlib.Core.Path.{_≡_, refl}
+use mathlib.Core.Bool.{Bool, true, false, cond}
 use mathlib.Core.List.{List, [], _∷_, _++_, append-assoc, append-nil}
 use Prim.Native.Nat.{ℕ, _<_, _≤_}
+use native.Mathlib.Omega.{arith}
+use lib.Dec.{ltb}
 use lib.ListN.{length}
-use borrow.Author.Tests.{lt-ltb, le-ltb}
+use borrow.Author.Tests.{lt-ltb, le-ltb, ltb-true, ltb-false}
 use Rattle.codes.specs.Answer.{accepted, refused}
-use Rattle.trace.specs.Layout.{countIn}
-use Rattle.trace.specs.Calls.{survey}
-use Rattle.trace.specs.Trace.{onBytes}
+use Rattle.trace.specs.declared.answer.Reading.{Reading}
+use Rattle.trace.specs.declared.answer.Survey.{Survey}
+use Rattle.trace.specs.declared.status.Status.{Status}
+use Rattle.trace.specs.Answers.{readingValues}
+use Rattle.trace.specs.Survey.{statusOf, is}
+use Rattle.trace.specs.Trace.{aloneIn, surveyIn}
 use Rattle.trace.proofs.Laws.{status-read, status-over}
 use Rattle.lines.specs.Text.{text, decimal, spaced}
-use Rattle.lines.specs.Listing.{line, ending, totalLine, refusedLine, answerIn, slotLines, listing}
+use Rattle.lines.specs.Listing.{line, statusWord, ending, totalLine, refusedLine, slotLines, listing}
 
 pub spaced-more : (l : List ℕ) (n : ℕ) → spaced (l ++ (n ∷ [])) ≡ (spaced l ++ text " ") ++ decimal n
 unfolding spaced
-spaced-more [] n = ap (λ (l : List ℕ). text " " ++ l) (append-nil (decimal n))
-spaced-more (m ∷ l) n = ap (λ (k : List ℕ). text " " ++ (decimal m ++ k)) (spaced-more l n) ∙ simp append-assoc
+spaced-more [] n = rw append-nil
+spaced-more (m ∷ l) n = rw (spaced-more l n) (simp append-assoc)
 
-pub ending-read : (step reading wrong marks : ℕ) → reading < 4095
-    → line (text " read") (step ∷ reading ∷ wrong ∷ marks ∷ []) ≡ ending (accepted (step ∷ reading ∷ wrong ∷ marks ∷ []))
-unfolding ending
-ending-read step reading wrong marks h = rw (status-read step reading (wrong ∷ marks ∷ []) h)
+-- a status's word takes six bytes at most, with the space before it
+pub word-short : (s : Status) → length (statusWord s) ≤ 6
+word-short Status.Blank = omega arith
+word-short Status.Read = omega arith
+word-short Status.Over = omega arith
+word-short Status.Lost = omega arith
+word-short Status.Bad = omega arith
 
-pub ending-over : (step reading wrong marks : ℕ) → 4095 ≤ reading
-    → line (text " over") (step ∷ wrong ∷ marks ∷ []) ≡ ending (accepted (step ∷ reading ∷ wrong ∷ marks ∷ []))
+-- ---- what follows a slot, whose status is at hand
+
+pub ending-refused : (n : ℕ) (s : Status) → s ≡ statusOf (refused n) → line (statusWord s) [] ≡ ending (refused n)
 unfolding ending
-ending-over step reading wrong marks h = rw (status-over step reading (wrong ∷ marks ∷ []) h)
+ending-refused n s e = rw e
+
+-- a reading is read or over
+module _ (v : Reading) (s : Status) (e : s ≡ statusOf (accepted v)) where
+  reading-status : (read : Bool) → is Status.Read s ≡ read → s ≡ cond read Status.Read Status.Over
+  reading-status read r = go (ltb (v .reading) 4095) refl
+    where
+      go : (below : Bool) → ltb (v .reading) 4095 ≡ below → s ≡ cond read Status.Read Status.Over
+      go true t = rw (← r, e, status-read v (ltb-true _ _ t))
+      go false t = rw (← r, e, status-over v (ltb-false _ _ t))
+
+  pub ending-read : is Status.Read s ≡ true → (s ≡ Status.Read) × (line (statusWord s) (readingValues v) ≡ ending (accepted v))
+  unfolding ending
+  ending-read r = let read = reading-status true r in (read, rw (← e, read))
+
+  pub ending-over : is Status.Read s ≡ false → line (statusWord s) (v .step ∷ v .wrong ∷ v .marks ∷ []) ≡ ending (accepted v)
+  unfolding ending
+  ending-over r = rw (← e, reading-status false r)
 
 -- ---- a listing
 
@@ -35,11 +62,11 @@ pub listing-long : (file : List ℕ) → 65536 < length file → refusedLine 7 �
 unfolding listing
 listing-long file h = simp (lt-ltb 65536 (length file) h)
 
-pub listing-refused : (file : List ℕ) (n : ℕ) → length file ≤ 65536 → onBytes survey file .answer ≡ refused n → refusedLine n ≡ listing file
+pub listing-refused : (file : List ℕ) (n : ℕ) → length file ≤ 65536 → surveyIn file ≡ refused n → refusedLine n ≡ listing file
 unfolding listing
 listing-refused file n h e = simp (le-ltb 65536 (length file) h, e)
 
-pub listing-accepted : (file vs : List ℕ) → length file ≤ 65536 → onBytes survey file .answer ≡ accepted vs
-    → slotLines (answerIn file) (countIn file) ++ totalLine (countIn file) vs ≡ listing file
+pub listing-accepted : (file : List ℕ) (s : Survey) → length file ≤ 65536 → surveyIn file ≡ accepted s
+    → slotLines (aloneIn file) (s .slots) ++ totalLine (s .slots) (s .counts) ≡ listing file
 unfolding listing
-listing-accepted file vs h e = simp (le-ltb 65536 (length file) h, e)
+listing-accepted file s h e = simp (le-ltb 65536 (length file) h, e)

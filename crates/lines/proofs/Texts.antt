@@ -1,6 +1,5 @@
 -- Texts written one after the other: nothing, a text after a text, a byte more. What is written second begins where the first ended, so
 -- the bytes before it hold the first, and those behind it stayed twice.
--- Assumes nothing.
 use mathlib.Core.Path.{_≡_, refl, sym, ap, _∙_}
 use mathlib.Core.List.{List, [], _∷_, _++_, append-assoc, append-nil}
 use Prim.Native.Nat.{ℕ, _+_, _<_}
@@ -8,7 +7,7 @@ use native.Mathlib.Omega.{arith}
 use native.Mathlib.Numerals.{add-one}
 use lib.ListN.{length, take, drop, getD, set, length-append}
 use lib.Seq.{take-suc, take-suc-set, drop-drop, drop-set-lt}
-use Rattle.lines.specs.Text.{Written}
+use Rattle.lines.specs.ContractsOfSteps.{Written}
 
 pub written-none : (b : List ℕ) (at : ℕ) → Written b at [] b at
 written-none b at = record { ends = omega arith; holds = sym (append-nil (take at b)); rest = refl }
@@ -20,7 +19,7 @@ pub written-then : {b c d s t : List ℕ} {at mid end : ℕ} → Written b at s 
 written-then {b} {c} {d} {s} {t} {at} {mid} {end} p q =
     record {
       ends = simp length-append (omega arith);
-      holds = q .holds ∙ ap (λ (l : List ℕ). l ++ t) (p .holds) ∙ append-assoc (take at b) s t;
+      holds = q .holds ∙ rw (p .holds) (append-assoc (take at b) s t);
       rest = q .rest ∙ rw (q .ends) (drop-later b c mid (length t) (p .rest));
     }
 

@@ -1,69 +1,70 @@
--- What the listing program prints for a file (document 01, end of 'Words to try'), over what `read` and `survey` answer.
--- Assumes nothing.
+-- What the listing program prints for a file (document 01, end of 'Words to try'), over what reads of its slots and a survey of it answer.
 use mathlib.Core.Bool.{cond}
 use mathlib.Core.List.{List, [], _∷_, _++_}
 use Prim.Native.Nat.{ℕ, zero, suc}
 use lib.Dec.{ltb}
-use lib.ListN.{length, take}
+use lib.ListN.{length}
 use Rattle.codes.specs.Answer.{Answer, accepted, refused}
-use Rattle.trace.specs.Layout.{countIn}
-use Rattle.trace.specs.Calls.{read, survey}
-use Rattle.trace.specs.Survey.{Status, statusOf}
-use Rattle.trace.specs.Survey as status
-use Rattle.trace.specs.Trace.{onBytes}
+use Rattle.trace.specs.declared.answer.Reading.{Reading}
+use Rattle.trace.specs.declared.answer.Counts.{Counts}
+use Rattle.trace.specs.declared.answer.Survey.{Survey}
+use Rattle.trace.specs.declared.status.Status.{Status}
+use Rattle.trace.specs.Answers.{readingValues, countsValues}
+use Rattle.trace.specs.Survey.{statusOf}
+use Rattle.trace.specs.Trace.{aloneIn, surveyIn}
 use Rattle.lines.specs.Text.{text, decimal, spaced}
 
 -- a text, numbers after it, and a newline
 unfoldable pub line : List ℕ → List ℕ → List ℕ
 line t numbers = t ++ (spaced numbers ++ text "\n")
 
--- the values of an accepted read, but for the reading
-abbrev pub withoutReading : List ℕ → List ℕ
-withoutReading [] = []
-withoutReading (step ∷ []) = step ∷ []
-withoutReading (step ∷ (reading ∷ rest)) = step ∷ rest
+-- ---- a slot's line
 
-abbrev pub values : Answer → List ℕ
-values (accepted vs) = vs
-values (refused n) = []
+-- the word of a status, after a space
+abbrev pub statusWord : Status → List ℕ
+statusWord Status.Blank = text " blank"
+statusWord Status.Read = text " read"
+statusWord Status.Over = text " over"
+statusWord Status.Lost = text " lost"
+statusWord Status.Bad = text " bad"
 
--- 'A line is slot and status, then step, reading, wrong, marks for read; step, wrong, marks for over': what follows the slot
-abbrev pub statusLine : Status → List ℕ → List ℕ
-statusLine status.blank vs = line (text " blank") []
-statusLine status.read vs = line (text " read") vs
-statusLine status.over vs = line (text " over") (withoutReading vs)
-statusLine status.lost vs = line (text " lost") []
-statusLine status.bad vs = line (text " bad") []
+-- '.. then step, reading, wrong, marks for read; step, wrong, marks for over'
+abbrev pub statusValues : Status → Reading → List ℕ
+statusValues Status.Blank v = []
+statusValues Status.Read v = readingValues v
+statusValues Status.Over v = v .step ∷ v .wrong ∷ v .marks ∷ []
+statusValues Status.Lost v = []
+statusValues Status.Bad v = []
 
--- the same, by what a read of the slot answers
-unfoldable pub ending : Answer → List ℕ
-ending a = statusLine (statusOf a) (values a)
+-- what follows the slot, by what a read of it answers; one that is refused has no values
+unfoldable pub ending : Answer Reading → List ℕ
+ending (accepted v) = line (statusWord (statusOf (accepted v))) (statusValues (statusOf (accepted v)) v)
+ending (refused n) = line (statusWord (statusOf (refused n))) []
 
-unfoldable pub slotLine : ℕ → Answer → List ℕ
+-- 'A line is slot and status, then ..'
+unfoldable pub slotLine : ℕ → Answer Reading → List ℕ
 slotLine slot a = decimal slot ++ ending a
 
--- the lines of the first n slots
-unfoldable pub slotLines : (ℕ → Answer) → ℕ → List ℕ
+-- the lines of the first n slots, by what a read of each answers
+unfoldable pub slotLines : (ℕ → Answer Reading) → ℕ → List ℕ
 slotLines answers zero = []
 slotLines answers (suc n) = slotLines answers n ++ slotLine n (answers n)
 
+-- ---- a listing
+
 -- 'The last line is total, N, blank, read, over, lost, bad'
-abbrev pub totalLine : ℕ → List ℕ → List ℕ
-totalLine n counts = line (text "total") (n ∷ take 5 counts)
+abbrev pub totalLine : ℕ → Counts → List ℕ
+totalLine n c = line (text "total") (n ∷ countsValues c)
 
 -- '"refused", a space and the number'
 abbrev pub refusedLine : ℕ → List ℕ
 refusedLine number = line (text "refused") (number ∷ [])
 
--- what a read of a slot answers
-abbrev pub answerIn : List ℕ → ℕ → Answer
-answerIn file slot = onBytes (read slot) file .answer
-
--- by what a survey of the file answers
-abbrev pub listed : List ℕ → Answer → List ℕ
-listed file (accepted counts) = slotLines (answerIn file) (countIn file) ++ totalLine (countIn file) counts
+-- by what a survey of the file answers; each slot is read by what it alone holds
+abbrev pub listed : List ℕ → Answer Survey → List ℕ
+listed file (accepted s) = slotLines (aloneIn file) (s .slots) ++ totalLine (s .slots) (s .counts)
 listed file (refused number) = refusedLine number
 
 -- 'A refused file, or one above 64 KiB (as 7), prints one line only'
 unfoldable pub listing : List ℕ → List ℕ
-listing file = cond (ltb 65536 (length file)) (refusedLine 7) (listed file (onBytes survey file .answer))
+listing file = cond (ltb 65536 (length file)) (refusedLine 7) (listed file (surveyIn file))

@@ -1,13 +1,10 @@
 -- Text as the bytes of its characters, and numbers in decimal.
--- Assumes nothing.
-use mathlib.Core.Path.{_≡_}
 use mathlib.Core.Bool.{cond}
 use mathlib.Core.List.{List, [], _∷_, _++_}
 use Prim.Native.Nat.{ℕ, zero, suc, _+_, _/_, _%_}
 use Prim.Native.Char.{code}
 use Prim.Native.String.{String, [] as empty, _∷_ as _then_}
 use lib.Dec.{ltb}
-use lib.ListN.{length, take, drop}
 
 -- the bytes of a quoted text
 abbrev pub text : String → List ℕ
@@ -31,9 +28,3 @@ decimal n = digits (suc n) n
 unfoldable pub spaced : List ℕ → List ℕ
 spaced [] = []
 spaced (n ∷ ns) = text " " ++ (decimal n ++ spaced ns)
-
--- `bytes` became `now`, in which a text stands from `at` to `end`, between what stood before and behind it
-pub record Written (bytes : List ℕ) (at : ℕ) (t now : List ℕ) (end : ℕ) : Type 0 where
-  pub ends : end ≡ at + length t
-  pub holds : take end now ≡ take at bytes ++ t
-  pub rest : drop end now ≡ drop end bytes

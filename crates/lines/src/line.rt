@@ -1,21 +1,15 @@
-// The lines of a listing. Each function writes one from `at` on and answers where it ends.
+// The lines of a listing. Each function writes one, or the rest of one, from `at` on and answers where it ends.
 use crate::text::write_decimal;
 use crate::text::write_numbers;
 use crate::text::write_text;
+use trace::Counts;
 use trace::ReadAnswer;
-use trace::Reading;
-use trace::Refusal;
-use trace::Survey;
-ghost use mathlib.Core.List.{[], _∷_};
+use trace::Status;
 ghost use Prim.Native.Nat.{_+_, _*_, _≤_};
 ghost use lib.ListN.{length};
-ghost use Rattle.codes.specs.Answer.{refused};
-ghost use Rattle.trace.specs.Answers.{refusalNumber, readAnswer};
-ghost use Rattle.lines.specs.Text.{Written};
-ghost use Rattle.lines.specs.Listing.{line, ending, slotLine, totalLine, refusedLine};
-
-// The converter tops out here: a reading that is no pressure.
-const OVER: u64 = 4095;
+ghost use Rattle.trace.specs.Answers.{readAnswer};
+ghost use Rattle.lines.specs.Listing.{line, statusWord, ending, slotLine, totalLine, refusedLine};
+ghost use Rattle.lines.specs.ContractsOfSteps.{Written};
 
 // Text, numbers, a newline.
 fn write_line(out: &mut [u8], at: usize, text: &[u8], numbers: &[u64]) -> usize
@@ -29,31 +23,38 @@ fn write_line(out: &mut [u8], at: usize, text: &[u8], numbers: &[u64]) -> usize
     end + 1
 }
 
-// What follows the slot where its read gives a reading.
-fn end_reading(out: &mut [u8], at: usize, v: Reading) -> usize
-    requires { ⌜ at + 90 ≤ length (now out) ⌝ }
-    ensures { λ r. ⌜ Written (now (out .entry)) at (ending (readAnswer (ReadAnswer.Mended v))) (now (out .exit)) r ⌝ }
-    ensures { λ r. ⌜ r ≤ at + 90 ⌝ }
+// What follows the slot: its status, numbers, a newline.
+fn end_line(out: &mut [u8], at: usize, status: Status, numbers: &[u64]) -> usize
+    requires { ⌜ at + length (statusWord status) + 21 * length (now numbers) + 1 ≤ length (now out) ⌝ }
+    ensures { λ r. ⌜ Written (now (out .entry)) at (line (statusWord status) (now (numbers .entry))) (now (out .exit)) r ⌝ }
+    ensures { λ r. ⌜ r ≤ at + length (statusWord status) + 21 * length (now (numbers .entry)) + 1 ⌝ }
 {
-    if OVER <= v.reading {
-        let numbers = [v.step, v.wrong, v.marks];
-        return write_line(out, at, b" over", &numbers);
+    match status {
+        Status::Blank => write_line(out, at, b" blank", numbers),
+        Status::Read => write_line(out, at, b" read", numbers),
+        Status::Over => write_line(out, at, b" over", numbers),
+        Status::Lost => write_line(out, at, b" lost", numbers),
+        Status::Bad => write_line(out, at, b" bad", numbers),
     }
-    let numbers = [v.step, v.reading, v.wrong, v.marks];
-    write_line(out, at, b" read", &numbers)
 }
 
-// What follows the slot where its read is refused.
-fn end_refusal(out: &mut [u8], at: usize, refusal: Refusal) -> usize
+// What follows the slot, by what a read of it answers: a reading that is no pressure is over, and its number isn't listed.
+fn end_slot(out: &mut [u8], at: usize, answer: ReadAnswer) -> usize
     requires { ⌜ at + 90 ≤ length (now out) ⌝ }
-    ensures { λ r. ⌜ Written (now (out .entry)) at (ending (refused (refusalNumber refusal))) (now (out .exit)) r ⌝ }
+    ensures { λ r. ⌜ Written (now (out .entry)) at (ending (readAnswer answer)) (now (out .exit)) r ⌝ }
     ensures { λ r. ⌜ r ≤ at + 90 ⌝ }
 {
-    match refusal {
-        Refusal::SlotBlank => write_text(out, at, b" blank\n"),
-        Refusal::NoneNear => write_text(out, at, b" lost\n"),
-        _ => write_text(out, at, b" bad\n"),
+    let status = answer.status();
+    let ReadAnswer::Corrected(v) = answer else {
+        let none: [u64; 0] = [];
+        return end_line(out, at, status, &none);
+    };
+    if status.is_read() {
+        let numbers = v.values();
+        return end_line(out, at, status, &numbers);
     }
+    let numbers = [v.step, v.wrong, v.marks];
+    end_line(out, at, status, &numbers)
 }
 
 // A slot's line, by what a read of it answers.
@@ -63,19 +64,17 @@ pub(crate) fn slot_line(out: &mut [u8], at: usize, slot: u64, answer: ReadAnswer
     ensures { λ r. ⌜ r ≤ at + 110 ⌝ }
 {
     let end = write_decimal(out, at, slot);
-    match answer {
-        ReadAnswer::Mended(v) => end_reading(out, end, v),
-        ReadAnswer::Refused(r) => end_refusal(out, end, r),
-    }
+    end_slot(out, end, answer)
 }
 
 // The last line: the number of slots, and how many are blank, read, over, lost and bad.
-pub(crate) fn total_line(out: &mut [u8], at: usize, slots: u64, s: Survey) -> usize
+pub(crate) fn total_line(out: &mut [u8], at: usize, slots: u64, counts: Counts) -> usize
     requires { ⌜ at + 132 ≤ length (now out) ⌝ }
-    ensures { λ r. ⌜ Written (now (out .entry)) at (totalLine slots (s .blank ∷ s .read ∷ s .over ∷ s .lost ∷ s .bad ∷ [])) (now (out .exit)) r ⌝ }
+    ensures { λ r. ⌜ Written (now (out .entry)) at (totalLine slots counts) (now (out .exit)) r ⌝ }
     ensures { λ r. ⌜ r ≤ at + 132 ⌝ }
 {
-    let numbers = [slots, s.blank, s.read, s.over, s.lost, s.bad];
+    let c = counts.values();
+    let numbers = [slots, c[0], c[1], c[2], c[3], c[4]];
     write_line(out, at, b"total", &numbers)
 }
 

@@ -3,13 +3,13 @@ use crate::line::refused_line;
 use crate::line::slot_line;
 use crate::line::total_line;
 use trace::Refusal;
-use trace::Survey;
 use trace::SurveyAnswer;
 ghost use mathlib.Core.Path.{_≡_};
-ghost use Prim.Native.Nat.{_+_, _*_, _≤_};
+ghost use Prim.Native.Nat.{_*_, _≤_};
 ghost use lib.ListN.{length, take, drop};
-ghost use Rattle.lines.specs.Text.{Written};
-ghost use Rattle.lines.specs.Listing.{answerIn, slotLines, listing};
+ghost use Rattle.trace.specs.Trace.{aloneIn};
+ghost use Rattle.lines.specs.Listing.{slotLines, listing};
+ghost use Rattle.lines.specs.ContractsOfSteps.{Written};
 
 // A file has at most this many bytes.
 pub const LONGEST: usize = 65536;
@@ -17,24 +17,16 @@ pub const LONGEST: usize = 65536;
 // Every listing fits: 4,000 lines of at most 110 bytes, and a last one of at most 132.
 pub const TEXT: usize = 440132;
 
-// How many slots a survey counted.
-fn counted(s: Survey) -> u64
-    requires { ⌜ s .blank + s .read + s .over + s .lost + s .bad ≤ 4000 ⌝ }
-    ensures { λ r. ⌜ (r ≡ s .blank + s .read + s .over + s .lost + s .bad) × (r ≤ 4000) ⌝ }
-{
-    s.blank + s.read + s.over + s.lost + s.bad
-}
-
-// The lines of the first slots.
+// The lines of the first slots, each read by what it alone holds.
 fn slot_lines(file: &[u8], slots: u64, out: &mut [u8]) -> usize
     requires { ⌜ 110 * slots ≤ length (now out) ⌝ }
-    ensures { λ r. ⌜ Written (now (out .entry)) 0 (slotLines (answerIn (now (file .entry))) slots) (now (out .exit)) r ⌝ }
+    ensures { λ r. ⌜ Written (now (out .entry)) 0 (slotLines (aloneIn (now (file .entry))) slots) (now (out .exit)) r ⌝ }
     ensures { λ r. ⌜ r ≤ 110 * slots ⌝ }
 {
     let mut end = 0;
     let mut slot = 0;
     while slot < slots {
-        end = slot_line(out, end, slot, trace::read(file, slot));
+        end = slot_line(out, end, slot, trace::read_alone(file, slot));
         slot += 1;
     }
     end
@@ -51,10 +43,11 @@ pub fn list(file: &[u8], out: &mut [u8; TEXT]) -> usize
     }
     match trace::survey(file) {
         SurveyAnswer::Refused(r) => refused_line(out, r.number()),
-        SurveyAnswer::Counts(s) => {
-            let slots = counted(s);
+        SurveyAnswer::Surveyed(s) => {
+            let slots = s.slots;
+            let counts = s.counts;
             let end = slot_lines(file, slots, out);
-            total_line(out, end, slots, s)
+            total_line(out, end, slots, counts)
         }
     }
 }

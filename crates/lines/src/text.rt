@@ -2,7 +2,8 @@
 ghost use mathlib.Core.Path.{_≡_};
 ghost use Prim.Native.Nat.{_+_, _*_, _≤_, _<_};
 ghost use lib.ListN.{length};
-ghost use Rattle.lines.specs.Text.{decimal, spaced, Written};
+ghost use Rattle.lines.specs.Text.{decimal, spaced};
+ghost use Rattle.lines.specs.ContractsOfSteps.{Written};
 
 // The character of a digit.
 fn digit(d: u64) -> u8

@@ -3,7 +3,7 @@ use libc::STDIN_FILENO;
 use libc::STDOUT_FILENO;
 
 fn main() {
-    // One byte more than a listed file has at most tells a longer one.
+    // One byte more than a listed file has at most, so that a longer one is seen.
     let mut file = [0u8; lines::LONGEST + 1];
     let size = io::read_full(STDIN_FILENO, &mut file);
     let mut text = [0u8; lines::TEXT];

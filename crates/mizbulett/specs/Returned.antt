@@ -1,10 +1,11 @@
 -- What a C caller has after a call: the number that is returned, and what `out` or the buffer holds then.
--- Assumes nothing.
 use mathlib.Core.List.{List, [], _∷_, _++_}
 use Prim.Native.Nat.{ℕ}
-use lib.ListN.{take, drop}
 use Rattle.codes.specs.Answer.{Answer, accepted, refused}
+use Rattle.trace.specs.declared.answer.Pressures.{Pressures}
+use Rattle.trace.specs.declared.answer.Survey.{Survey}
 use Rattle.trace.specs.Calls.{After}
+use Rattle.trace.specs.Answers.{countsValues}
 
 pub record Returned : Type 0 where
   pub number : ℕ
@@ -14,12 +15,12 @@ abbrev pub returned : ℕ → List ℕ → Returned
 returned n h = record { number = n; held = h }
 
 -- 0 where a call is accepted, else the refusal's number
-abbrev pub numberOf : Answer → ℕ
+abbrev pub numberOf : Answer (List ℕ) → ℕ
 numberOf (accepted values) = 0
 numberOf (refused n) = n
 
 -- of a call that answers values: `out` holds them, or what it held where the call is refused
-abbrev pub returns : Answer → List ℕ → Returned
+abbrev pub returns : Answer (List ℕ) → List ℕ → Returned
 returns (accepted values) out = returned 0 values
 returns (refused n) out = returned n out
 
@@ -27,12 +28,10 @@ returns (refused n) out = returned n out
 abbrev pub leaves : After (List ℕ) → Returned
 leaves a = returned (numberOf (a .answer)) (a .state)
 
--- a survey's ten values: the seventh tells whether 'smallest, largest and mean' are present; they are 0 where they are absent
-abbrev pub presence : List ℕ → List ℕ
-presence [] = 0 ∷ 0 ∷ 0 ∷ 0 ∷ []
-presence (smallest ∷ more) = 1 ∷ smallest ∷ more
+-- a survey in ten values: the seventh tells whether smallest, largest and mean are present (1), or absent (0, and three zeros behind it)
+abbrev pub pressuresInFour : Pressures → List ℕ
+pressuresInFour Pressures.Absent = 0 ∷ 0 ∷ 0 ∷ 0 ∷ []
+pressuresInFour (Pressures.Present smallest largest mean) = 1 ∷ smallest ∷ largest ∷ mean ∷ []
 
--- what a survey answers, in ten values
-abbrev pub inTen : Answer → Answer
-inTen (accepted values) = accepted (take 6 values ++ presence (drop 6 values))
-inTen (refused n) = refused n
+abbrev pub surveyInTen : Survey → List ℕ
+surveyInTen s = countsValues (s .counts) ++ (s .sum ∷ pressuresInFour (s .pressures))

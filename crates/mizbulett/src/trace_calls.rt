@@ -2,12 +2,14 @@
 use trace::Done;
 use trace::Pressures;
 use trace::ReadAnswer;
+use trace::Survey;
 use trace::SurveyAnswer;
 ghost use mathlib.Core.Path.{_≡_};
-ghost use Rattle.trace.specs.Calls.{put, flip, mark, clear, read, survey};
-ghost use Rattle.trace.specs.Trace.{onBytes, make};
-ghost use Rattle.trace.specs.Answers.{doneAnswer, pressuresValues};
-ghost use Rattle.mizbulett.specs.Returned.{numberOf, returned, returns, leaves, presence, inTen};
+ghost use Rattle.codes.specs.Answer.{mapAnswer};
+ghost use Rattle.trace.specs.Calls.{put, flip, mark, clear, read};
+ghost use Rattle.trace.specs.Trace.{onBytes, make, surveyIn};
+ghost use Rattle.trace.specs.Answers.{doneAnswer};
+ghost use Rattle.mizbulett.specs.Returned.{numberOf, returned, returns, leaves, surveyInTen};
 
 // 0 where a call is accepted, else the refusal's number.
 fn number(done: Done) -> u64
@@ -22,7 +24,7 @@ fn number(done: Done) -> u64
 // Makes a trace of blank slots at the buffer's end. Refusals 1, 6 and 7.
 #[no_mangle]
 pub extern "C" fn mizbulett_make(buf: &mut [u8], code: u64, slots: u64) -> u64
-    ensures { λ r. ⌜ returned r (now (buf .exit)) ≡ leaves (make code slots (now (buf .entry))) ⌝ }
+    ensures { λ r. ⌜ returned r (now (buf .exit)) ≡ leaves (make (record { code = code; slots = slots }) (now (buf .entry))) ⌝ }
 {
     number(trace::make(buf, code, slots))
 }
@@ -66,45 +68,48 @@ pub extern "C" fn mizbulett_read(buf: &[u8], slot: u64, out: &mut [u64; 4]) -> u
 {
     match trace::read(buf, slot) {
         ReadAnswer::Refused(r) => r.number(),
-        ReadAnswer::Mended(v) => {
-            *out = [v.step, v.reading, v.wrong, v.marks];
+        ReadAnswer::Corrected(v) => {
+            *out = v.values();
             0
         }
     }
 }
 
-// Smallest, largest and mean after a 1, or four zeros where they are absent.
-fn present(p: Pressures) -> [u64; 4]
-    ensures { λ r. ⌜ r ≡ presence (pressuresValues p) ⌝ }
+// The counts and the sum; then 1, smallest, largest and mean, or four zeros where these are absent.
+fn in_ten(s: Survey) -> [u64; 10]
+    ensures { λ r. ⌜ r ≡ surveyInTen s ⌝ }
 {
-    match p {
-        Pressures::Absent => [0, 0, 0, 0],
-        Pressures::Present(smallest, largest, mean) => [1, smallest, largest, mean],
+    let counts = s.counts;
+    let c = counts.values();
+    let pressures = s.pressures;
+    match pressures {
+        Pressures::Absent => [c[0], c[1], c[2], c[3], c[4], s.sum, 0, 0, 0, 0],
+        Pressures::Present(smallest, largest, mean) => {
+            [
+                c[0],
+                c[1],
+                c[2],
+                c[3],
+                c[4],
+                s.sum,
+                1,
+                smallest,
+                largest,
+                mean,
+            ]
+        }
     }
 }
 
 // Counts the slots, and writes blank, read, over, lost, bad, sum, present, smallest, largest and mean. Refusals 7 and 8.
 #[no_mangle]
 pub extern "C" fn mizbulett_survey(buf: &[u8], out: &mut [u64; 10]) -> u64
-    ensures { λ r. ⌜ returned r (now (out .exit)) ≡ returns (inTen (onBytes survey (now (buf .entry)) .answer)) (now (out .entry)) ⌝ }
+    ensures { λ r. ⌜ returned r (now (out .exit)) ≡ returns (mapAnswer surveyInTen (surveyIn (now (buf .entry)))) (now (out .entry)) ⌝ }
 {
     match trace::survey(buf) {
         SurveyAnswer::Refused(r) => r.number(),
-        SurveyAnswer::Counts(s) => {
-            let pressures = s.pressures;
-            let p = present(pressures);
-            *out = [
-                s.blank,
-                s.read,
-                s.over,
-                s.lost,
-                s.bad,
-                s.sum,
-                p[0],
-                p[1],
-                p[2],
-                p[3],
-            ];
+        SurveyAnswer::Surveyed(s) => {
+            *out = in_ten(s);
             0
         }
     }

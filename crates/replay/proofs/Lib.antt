@@ -1,4 +1,8 @@
-mod Told
-mod Turns
+-- Answers as numbers: an answer that is written, and the call that gave it.
+mod WrittenAnswers
+-- Calls as numbers: what each kind has and calls; the call that a list of numbers begins with.
+mod CallKinds
+mod FirstCalls
+-- A replay: taken call by call it is the run of the calls that have room; in the midst of its list.
 mod Plays
 mod Progress

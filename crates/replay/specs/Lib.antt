@@ -1,4 +1,6 @@
+-- What a reader must believe: calls and answers as numbers, and what a replay answers and leaves.
 pub mod Numbers
 pub mod Replay
-pub mod Play
-pub mod Rows
+-- What the private steps of a replay promise each other. No claim rests on these but by the proofs.
+pub mod ContractsOfPlay
+pub mod ContractsOfSteps

@@ -1,6 +1,5 @@
 -- Calls and answers as numbers. A call is its kind, the count of numbers that follow, and the numbers; an answer is the refusal's
 -- number or 0, the count of values, and the values.
--- Assumes nothing.
 use mathlib.Core.Bool.{Bool, cond, _&&_}
 use mathlib.Core.List.{List, [], _∷_}
 use Prim.Native.Nat.{ℕ, zero, suc, _+_}
@@ -38,6 +37,6 @@ abbrev pub callsOf : List ℕ → List Call
 callsOf xs = callsIn (length xs) xs
 
 -- an answer's numbers
-abbrev pub answerNumbers : Answer → List ℕ
+abbrev pub answerNumbers : Answer (List ℕ) → List ℕ
 answerNumbers (accepted vs) = 0 ∷ length vs ∷ vs
 answerNumbers (refused n) = n ∷ 0 ∷ []

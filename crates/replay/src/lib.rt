@@ -1,6 +1,6 @@
 // Runs a list of trace calls that is given as numbers, and writes their answers as numbers.
-mod orders;
-mod rows;
+mod answers;
+mod calls;
 mod runs;
 
 pub use runs::replay;

@@ -1,6 +1,5 @@
 -- What a line lends, by each path through `lend`, and lent bytes that are written one by one over the front of a buffer. Whether a word
 -- is all digits is found from its front, byte by byte; byte i of the bytes that it stands for is that of its digits 2·i and 2·i + 1.
--- Assumes nothing.
 use mathlib.Core.Path.{_≡_, refl, sym}
 use mathlib.Core.Bool.{Bool, true, false, cond, _&&_}
 use mathlib.Core.List.{List, [], _∷_}

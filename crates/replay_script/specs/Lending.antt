@@ -1,9 +1,8 @@
 -- What a line lends: `buffer 63` lends 63 zero bytes, `buffer 00FF..` these bytes, and any other line none; and what the buffer holds then.
--- Assumes nothing.
 use mathlib.Core.Bool.{Bool, true, cond, _&&_}
 use mathlib.Core.List.{List, [], _∷_, _++_}
 use mathlib.Core.Option.{Option, none, some}
-use Prim.Native.Nat.{ℕ, _+_, _*_, _%_, _≤_}
+use Prim.Native.Nat.{ℕ, _+_, _*_, _%_}
 use lib.Dec.{leb, ltb, eqb}
 use lib.ListN.{length, take, drop, replicate}
 use Rattle.script.specs.declared.words.Number.{Number}
@@ -70,8 +69,3 @@ unfoldable pub lendIn : Option (List ℕ) → List ℕ → Lending
 lendIn none b = lending Lent.Nothing b
 lendIn (some xs) b =
     cond (leb (length xs) (length b)) (lending (Lent.Bytes (length xs)) (xs ++ drop (length xs) b)) (lending Lent.Nothing b)
-
--- no more is lent than the buffer has
-abbrev pub Fits : ℕ → Lent → Type 0
-Fits most (Lent.Bytes n) = n ≤ most
-Fits most Lent.Nothing = Unit {0}

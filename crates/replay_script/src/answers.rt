@@ -1,10 +1,10 @@
 // Answers, a line each.
 use libc::STDOUT_FILENO;
 use trace::Done;
-use trace::Pressures;
 use trace::ReadAnswer;
 use trace::Refusal;
 use trace::SurveyAnswer;
+use trace::SurveyValues;
 
 // Writes a text.
 pub(crate) fn write_text(text: &[u8]) {
@@ -15,6 +15,15 @@ pub(crate) fn write_text(text: &[u8]) {
 fn write_number(n: u64) {
     write_text(b" ");
     io::print_decimal(STDOUT_FILENO, n);
+}
+
+// Numbers, each after a space.
+fn write_numbers(numbers: &[u64]) {
+    let mut i = 0;
+    while i < numbers.len() {
+        write_number(numbers[i]);
+        i += 1;
+    }
 }
 
 // The line of a refused call.
@@ -36,44 +45,38 @@ pub(crate) fn write_done(done: Done) {
 pub(crate) fn write_read(answer: ReadAnswer) {
     match answer {
         ReadAnswer::Refused(r) => write_refusal(r),
-        ReadAnswer::Mended(v) => {
+        ReadAnswer::Corrected(v) => {
+            let values = v.values();
             write_text(b"ok");
-            write_number(v.step);
-            write_number(v.reading);
-            write_number(v.wrong);
-            write_number(v.marks);
+            write_numbers(&values);
             write_text(b"\n");
         }
     }
 }
 
-// The end of a survey's line: smallest, largest, mean, or `-` for each.
-fn write_pressures(pressures: Pressures) {
-    match pressures {
-        Pressures::Absent => write_text(b" - - -\n"),
-        Pressures::Present(smallest, largest, mean) => {
-            write_number(smallest);
-            write_number(largest);
-            write_number(mean);
-            write_text(b"\n");
+// A survey's values, each after a space, and `-` for each that is missing.
+fn write_values(v: SurveyValues) {
+    let count = v.count;
+    let values = v.values;
+    let mut i = 0;
+    while i < values.len() {
+        if i < count {
+            write_number(values[i]);
+        } else {
+            write_text(b" -");
         }
+        i += 1;
     }
 }
 
-// The line of a survey: blank, read, over, lost, bad, sum, smallest, largest, mean.
+// The line of a survey: blank, read, over, lost, bad, sum; smallest, largest, mean, or `-` for each of these where they are absent.
 pub(crate) fn write_survey(answer: SurveyAnswer) {
     match answer {
         SurveyAnswer::Refused(r) => write_refusal(r),
-        SurveyAnswer::Counts(s) => {
+        SurveyAnswer::Surveyed(s) => {
             write_text(b"ok");
-            write_number(s.blank);
-            write_number(s.read);
-            write_number(s.over);
-            write_number(s.lost);
-            write_number(s.bad);
-            write_number(s.sum);
-            let pressures = s.pressures;
-            write_pressures(pressures);
+            write_values(s.values());
+            write_text(b"\n");
         }
     }
 }

@@ -7,7 +7,8 @@ ghost use mathlib.Core.Path.{_≡_};
 ghost use mathlib.Core.Option.{some};
 ghost use Prim.Native.Nat.{_<_};
 ghost use lib.ListN.{length};
-ghost use Rattle.replay_script.specs.Lending.{place, hexValue, isHex, hexBytes, zeros, countOf, lineLends, lending, lendIn, Fits};
+ghost use Rattle.replay_script.specs.Lending.{place, hexValue, isHex, hexBytes, zeros, countOf, lineLends, lending, lendIn};
+ghost use Rattle.replay_script.specs.ContractsOfSteps.{Fits};
 
 // How many bytes are lent.
 pub(crate) enum Lent {

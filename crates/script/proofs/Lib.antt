@@ -1,4 +1,5 @@
--- what the layers above may cite
+-- What the crates above may cite: the test of two texts.
 pub mod Naming
-mod Splitting
+-- The number of a word, digit by digit, and a line's words, one after the other.
 mod Numerals
+mod Splitting

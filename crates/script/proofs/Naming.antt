@@ -1,6 +1,5 @@
--- The test of two texts tells whether they are equal, so any Boolean that tells the same is that test.
--- Assumes nothing.
-use mathlib.Core.Path.{_≡_, refl, sym, ap, ap₂, _∙_}
+-- The test of two texts is true where they are equal and only there, so any Boolean that is so is that test.
+use mathlib.Core.Path.{_≡_, refl, sym, _∙_}
 use mathlib.Core.Bool.{Bool, true, false, _&&_}
 use mathlib.Core.List.{List, [], _∷_}
 use Prim.Native.Nat.{ℕ}
@@ -22,11 +21,11 @@ is-true (c ∷ cs) [] e = let z : _≡_ {A = ℕ} 0 1 = cc in absurd (omega arit
 is-true (c ∷ cs) (d ∷ ds) e = go (eqb c d) refl e (is-true cs ds)
   where
     go : (t : Bool) → eqb c d ≡ t → t && is cs ds ≡ true → (is cs ds ≡ true → cs ≡ ds) → c ∷ cs ≡ d ∷ ds
-    go true t e more = ap₂ (λ (x : ℕ) (xs : List ℕ). x ∷ xs) (eqb-true c d t) (more e)
+    go true t e more = rw (eqb-true c d t, more e)
     go false t e more = let z : _≡_ {A = ℕ} 0 1 = cc in absurd (omega arith)
 
 pub is-same : (r : Bool) (a b : List ℕ) → (r ≡ true → a ≡ b) → (a ≡ b → r ≡ true) → r ≡ is a b
-is-same true a b f g = sym (ap (λ (l : List ℕ). is l b) (f refl) ∙ is-refl b)
+is-same true a b f g = rw (f refl, is-refl b)
 is-same false a b f g = go (is a b) refl
   where
     go : (t : Bool) → is a b ≡ t → false ≡ is a b

@@ -1,6 +1,5 @@
 -- The number of a word, one digit at a time: each way that a byte goes on a number (below the digits, above them, too large, a digit), and
 -- how the digits that are left go on what is read. Once there is no number, no digit makes one.
--- Assumes nothing.
 use mathlib.Core.Path.{_≡_, refl}
 use mathlib.Core.List.{List, [], _∷_}
 use Prim.Native.Nat.{ℕ, _+_, _-_, _*_, _^_, _<_, _≤_}
@@ -39,6 +38,6 @@ number-some (c ∷ cs) some = refl
 pub digits-step : (w : List ℕ) (i n : ℕ) → i < length w → digitsOn (drop i w) (Number.Is n) ≡ digitsOn (drop (i + 1) w) (digitOn n (getD w i 0))
 digits-step w i n h = rw (add-one, drop-cons w i 0 h)
 
-pub digits-nothing : (w : List ℕ) → Number.Nothing ≡ digitsOn w Number.Nothing
+pub digits-nothing : (w : List ℕ) → digitsOn w Number.Nothing ≡ Number.Nothing
 digits-nothing [] = refl
 digits-nothing (c ∷ cs) = refl

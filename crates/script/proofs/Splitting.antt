@@ -1,7 +1,6 @@
 -- A line's words, one after the other: the first ends where the first space stands, and the others are the words behind that space. So a
 -- walk that looks for the next space, reads the word up to it, and goes on there, reads every word.
--- Assumes nothing.
-use mathlib.Core.Path.{_≡_, refl, sym, ap, ap₂, _∙_}
+use mathlib.Core.Path.{_≡_, refl}
 use mathlib.Core.Bool.{Bool, true, false, cond}
 use mathlib.Core.List.{List, [], _∷_}
 use Prim.Native.Nat.{ℕ, suc, _+_, _-_, _<_, _≤_}
@@ -13,7 +12,8 @@ use lib.Seq.{drop-cons, drop-drop}
 use borrow.Author.Tests.{eq-eqb, ne-eqb}
 use Rattle.script.specs.declared.words.Number.{Number}
 use Rattle.script.specs.declared.line.Numbers.{Numbers}
-use Rattle.script.specs.Script.{before, onto, words, rest, numberOf, andOn, numbersOn, commandOf, spoken, meaning}
+use Rattle.script.specs.Script.{before, onto, words, numberOf, andOn, numbersOn, commandOf, meaning}
+use Rattle.script.specs.ContractsOfSteps.{rest}
 
 pub before-here : (byte : ℕ) (b : List ℕ) (i : ℕ) → i < length b → getD b i 0 ≡ byte → length (before byte (drop i b)) ≡ 0
 unfolding before
@@ -37,7 +37,7 @@ words-before (c ∷ cs) = go (eqb c 32) (words-before cs)
         → cond space ([] ∷ words cs) (onto c (words cs))
         ≡ cond space [] (c ∷ before 32 cs) ∷ rest (drop (length (cond space [] (c ∷ before 32 cs))) (c ∷ cs))
     go true e = refl
-    go false e = ap (onto c) e
+    go false e = rw e
 
 pub take-before : (l : List ℕ) → take (length (before 32 l)) l ≡ before 32 l
 unfolding before
@@ -47,7 +47,7 @@ take-before (c ∷ cs) = go (eqb c 32) (take-before cs)
     go : (space : Bool) → take (length (before 32 cs)) cs ≡ before 32 cs
         → take (length (cond space [] (c ∷ before 32 cs))) (c ∷ cs) ≡ cond space [] (c ∷ before 32 cs)
     go true e = refl
-    go false e = ap (λ (w : List ℕ). c ∷ w) e
+    go false e = rw e
 
 -- ---- the numbers that are left
 
@@ -57,23 +57,19 @@ pub numbers-step : (line : List ℕ) (at end : ℕ) (all : Numbers) → at < len
 unfolding numbersOn
 numbers-step line at end all h e =
     let l = drop (at + 1) line in
-    let size : length (before 32 l) ≡ end - (at + 1) = omega arith in
-    ap (λ (m : List ℕ). numbersOn all (rest m)) (drop-cons line at 0 h)
-    ∙ ap (λ (m : ℕ). numbersOn all (words (drop m line))) (sym (add-one at))
-    ∙ ap (numbersOn all) (words-before l)
-    ∙ ap₂ (λ (w m : List ℕ). numbersOn (andOn all (numberOf w)) (rest m)) (sym (take-before l) ∙ ap (λ (k : ℕ). take k l) size)
-    (drop-drop (length (before 32 l)) (at + 1) line ∙ ap (λ (k : ℕ). drop k line) (sym e))
+    let size : end - (at + 1) ≡ length (before 32 l) = omega arith in
+    rw (drop-cons line at 0 h, ← add-one at, words-before l, size, take-before l, drop-drop, ← e)
 
-pub numbers-unreadable : (ws : List (List ℕ)) → Numbers.Unreadable ≡ numbersOn Numbers.Unreadable ws
+pub numbers-unreadable : (ws : List (List ℕ)) → numbersOn Numbers.Unreadable ws ≡ Numbers.Unreadable
 unfolding numbersOn
 numbers-unreadable [] = refl
 numbers-unreadable (w ∷ ws) = go (numberOf w) (numbers-unreadable ws)
   where
-    go : (n : Number) → Numbers.Unreadable ≡ numbersOn Numbers.Unreadable ws → Numbers.Unreadable ≡ numbersOn (andOn Numbers.Unreadable n) ws
+    go : (n : Number) → numbersOn Numbers.Unreadable ws ≡ Numbers.Unreadable → numbersOn (andOn Numbers.Unreadable n) ws ≡ Numbers.Unreadable
     go Number.Nothing e = e
     go (Number.Is n) e = e
 
-pub and-nothing : (all : Numbers) → Numbers.Unreadable ≡ andOn all Number.Nothing
+pub and-nothing : (all : Numbers) → andOn all Number.Nothing ≡ Numbers.Unreadable
 and-nothing Numbers.None = refl
 and-nothing (Numbers.One a) = refl
 and-nothing (Numbers.Two a b) = refl
@@ -86,7 +82,4 @@ and-nothing Numbers.Unreadable = refl
 pub meaning-first : (line : List ℕ) (end : ℕ) → end ≡ length (before 32 line)
     → commandOf (take end line) (numbersOn Numbers.None (rest (drop end line))) ≡ meaning line
 unfolding meaning
-meaning-first line end e =
-    ap (λ (k : ℕ). commandOf (take k line) (numbersOn Numbers.None (rest (drop k line)))) e
-    ∙ ap (λ (w : List ℕ). commandOf w (numbersOn Numbers.None (rest (drop (length (before 32 line)) line)))) (take-before line)
-    ∙ ap spoken (sym (words-before line))
+meaning-first line end e = rw (e, take-before line, words-before line)

@@ -1,5 +1,4 @@
 -- What a line of a script means: the name of a call and its numbers, a space between.
--- Assumes nothing.
 use mathlib.Core.Bool.{Bool, true, false, cond, _&&_}
 use mathlib.Core.List.{List, [], _∷_}
 use Prim.Native.Nat.{ℕ, _+_, _-_, _*_, _^_}
@@ -26,11 +25,6 @@ onto c (w ∷ ws) = (c ∷ w) ∷ ws
 unfoldable pub words : List ℕ → List (List ℕ)
 words [] = [] ∷ []
 words (c ∷ cs) = cond (eqb c 32) ([] ∷ words cs) (onto c (words cs))
-
--- the words of what stands behind a word: none at the line's end, else those after the space
-abbrev pub rest : List ℕ → List (List ℕ)
-rest [] = []
-rest (space ∷ cs) = words cs
 
 -- ---- numbers
 

@@ -6,7 +6,8 @@ use check::same;
 ghost use mathlib.Core.Path.{_≡_};
 ghost use Prim.Native.Nat.{_≤_};
 ghost use lib.ListN.{length, drop};
-ghost use Rattle.script.specs.Script.{andOn, numbersOn, rest, is, commandOf, meaning};
+ghost use Rattle.script.specs.Script.{andOn, numbersOn, is, commandOf, meaning};
+ghost use Rattle.script.specs.ContractsOfSteps.{rest};
 
 // What stands between words.
 const SPACE: u8 = b' ';

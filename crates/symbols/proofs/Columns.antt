@@ -1,7 +1,6 @@
 -- The laws of columns. Value, parity and top bit add, and the three together fix a column; weight is bounded below by parity
 -- and value, and above by the weights of summands. Each is a test over all columns.
--- Assumes nothing.
-use mathlib.Core.Path.{_≡_, ap₂}
+use mathlib.Core.Path.{_≡_}
 use mathlib.Core.Bool.{Bool, true, false, not, _&&_, Bool-discrete}
 use Prim.Native.Nat.{_+_, _*_, _≤_}
 use lib.Dec.{leb, leb→le}
@@ -42,12 +41,11 @@ odd-weight c e = leb→le 1 (weight c) (implied columns parity (λ c. leb 1 (wei
 pub even-weight : (c : Column) → parity c ≡ false → isZero (value c) ≡ false → 2 ≤ weight c
 even-weight c e v =
     leb→le 2 (weight c)
-    (implied columns (λ c. not (parity c) && not (isZero (value c))) (λ c. leb 2 (weight c)) tt c (ap₂ (λ (p z : Bool). not p && not z) e v))
+    (implied columns (λ c. not (parity c) && not (isZero (value c))) (λ c. leb 2 (weight c)) tt c (rw (e, v)))
 
 pub flat-weight : (c : Column) → parity c ≡ false → isZero (value c) ≡ true → weight c ≡ 4 * one (top c)
 flat-weight c e v =
-    law-where columns number-discrete (λ c. not (parity c) && isZero (value c)) weight (λ c. 4 * one (top c)) tt c
-    (ap₂ (λ (p z : Bool). not p && z) e v)
+    law-where columns number-discrete (λ c. not (parity c) && isZero (value c)) weight (λ c. 4 * one (top c)) tt c (rw (e, v))
 
 pub weight-add : (c d : Column) → weight (c ⊕ d) ≤ weight c + weight d
 weight-add c d = law-le (columns ⊗ columns) (λ (c, d). weight (c ⊕ d)) (λ (c, d). weight c + weight d) tt (c, d)

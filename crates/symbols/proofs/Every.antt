@@ -1,8 +1,7 @@
 -- Laws over finite types: bits, symbols, columns, tuples of them, and the numbers below a bound.
 -- A test is computed at every value of the type; that it passes everywhere is then its own proof, `tt`, and `at`, `law`, `law-le` or `implied`
--- turns it into the fact at one value. Several variables are a tuple: `bits ⊗ symbols ⊗ columns`.
--- Assumes nothing.
-use mathlib.Core.Path.{_≡_, refl, sym, subst}
+-- makes of it the fact at one value. Several variables are a tuple: `bits ⊗ symbols ⊗ columns`.
+use mathlib.Core.Path.{_≡_, refl}
 use mathlib.Core.Bool.{Bool, true, false, not, _&&_, _||_}
 use mathlib.Core.Logic.{⊎-elim}
 use Prim.Native.Nat.{ℕ, zero, suc, _≤_, _<_}
@@ -65,7 +64,7 @@ below (suc n) f = f n && below n f
 pub at-below : (n : ℕ) (f : ℕ → Bool) → T (below n f) → (k : ℕ) → k < n → T (f k)
 at-below zero f t k h = absurd (not-suc-le-zero h)
 at-below (suc n) f t k h =
-    ⊎-elim (λ e. subst (λ (x : ℕ). T (f x)) (sym e) (and-left (f n) (below n f) t))
+    ⊎-elim (λ e. rw e (and-left (f n) (below n f) t))
     (λ l. at-below n f (and-right (f n) (below n f) t) k l) (eq-or-lt-of-le (le-of-suc-le-suc h))
 
 -- a decided statement as a test
@@ -102,7 +101,7 @@ law-below-both n d f g t j k hj hk =
 
 -- where a test that is an implication passes; one that passes at every value of a type; two functions that agree where a test passes
 pub implies : (a b : Bool) → T (not a || b) → a ≡ true → T b
-implies a b t e = subst (λ (x : Bool). T (not x || b)) e t
+implies a b t e = rw (e) at t
 
 pub implied : {A : Type 0} (p : Every A) (f g : A → Bool) → T (p .all (λ a. not (f a) || g a)) → (a : A) → f a ≡ true → T (g a)
 implied p f g t a e = implies (f a) (g a) (p .at (λ a. not (f a) || g a) t a) e

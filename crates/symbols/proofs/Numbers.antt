@@ -1,14 +1,13 @@
 -- Symbols and columns as numbers: there and back, modulo 4 and 16, and tables that are indexed by such numbers.
 -- There and back is a test over the type, or over the numbers below 4 or 16. A number's lowest bits are those of its remainder, so what
 -- is tested below 4 or 16 holds of every number, taken modulo 4 or 16.
--- Assumes nothing.
 use mathlib.Core.Path.{_≡_, ap, ap₂, _∙_}
 use mathlib.Core.Bool.{Bool-discrete}
-use Prim.Native.Nat.{ℕ, suc, _+_, _%_, _^_, _<_}
+use Prim.Native.Nat.{ℕ, suc, _+_, _/_, _%_, _^_, _<_}
 use native.Mathlib.Nat.{mod-lt}
-use lib.Dec.{T, eqb, lit<}
+use lib.Dec.{T, lit<}
 use lib.Pow.{field, mod-mod-pow}
-use Rattle.symbols.specs.Symbol.{Symbol, Symbol-discrete, symbol, symbolNumber, symbolOf, bit}
+use Rattle.symbols.specs.Symbol.{Symbol, Symbol-discrete, symbol, symbolNumber, symbolOf, hasBit}
 use Rattle.symbols.specs.Column.{Column, Column-discrete, columnOf, columnNumber}
 use Rattle.symbols.proofs.Every.{symbols, columns, below, passes, law, law-le, law-below, law-below-both, number-discrete}
 
@@ -31,10 +30,9 @@ pub column-number-lt : (c : Column) → columnNumber c < 16
 column-number-lt c = law-le columns (λ c. suc (columnNumber c)) (λ c. 16) tt c
 
 -- a number's low bits are those of its remainder
-pub bit-mod : (k j n : ℕ) → bit k (n % 2 ^ (j + 1 + k)) ≡ bit k n
+pub bit-mod : (k j n : ℕ) → hasBit k (n % 2 ^ (j + 1 + k)) ≡ hasBit k n
 bit-mod k j n =
-    ap (λ (x : ℕ). eqb (x % 2) 1) (field n (j + 1) k)
-    ∙ ap (λ (x : ℕ). eqb x 1) (mod-mod-pow _ j 1)
+    rw (field n (j + 1) k, mod-mod-pow (n / 2 ^ k) j 1)
 
 pub symbol-mod : (n : ℕ) → symbolOf (n % 4) ≡ symbolOf n
 symbol-mod n = ap₂ symbol (bit-mod 1 0 n) (bit-mod 0 1 n)
@@ -54,4 +52,4 @@ pub by-symbols : (f : ℕ → ℕ → ℕ → ℕ) (w : ℕ) (g : Symbol → Sym
 by-symbols f w g t x y =
     law-below-both 4 number-discrete (f w) (λ x y. symbolNumber (g (symbolOf x) (symbolOf y))) t
     (x % 4) (y % 4) (mod-lt x (lit< tt)) (mod-lt y (lit< tt))
-    ∙ ap₂ (λ (a b : Symbol). symbolNumber (g a b)) (symbol-mod x) (symbol-mod y)
+    ∙ rw (symbol-mod x, symbol-mod y)

@@ -1,6 +1,5 @@
 -- The laws of the four symbols, which are a field in which each element is its own negative, and those of bits under exclusive or.
 -- Each is a test over all symbols, or over all bits.
--- Assumes nothing.
 use mathlib.Core.Path.{_≡_}
 use mathlib.Core.Bool.{Bool, false, not, Bool·beq, Bool-discrete, _||_}
 use Rattle.symbols.specs.Symbol.{_⊻_, Symbol, s0, Symbol-discrete, isZero, add, mul}

@@ -1,9 +1,8 @@
 -- A column of four bits: its value, parity, top bit and weight (document 01, 'Columns and their values'; source document 000).
--- Assumes nothing.
 use mathlib.Core.Bool.{Bool, true, false, cond, _&&_, Bool·beq}
 use Prim.Native.Nat.{ℕ, zero, suc, _+_, _*_}
 use lib.Dec.{eqb}
-use Rattle.symbols.specs.Symbol.{_⊻_, Symbol, s0, s1, s2, s3, symbolNumber, add, bit}
+use Rattle.symbols.specs.Symbol.{_⊻_, Symbol, s0, s1, s2, s3, symbolNumber, add, hasBit}
 
 -- 'four bits, top bit first': row 0 is the top row
 pub data Column : Type 0 where
@@ -40,7 +39,7 @@ column a b c d ⊕ column a′ b′ c′ d′ = column (a ⊻ a′) (b ⊻ b′)
 
 -- a number as a column, modulo 16, and a column's number: the top bit is the highest
 abbrev pub columnOf : ℕ → Column
-columnOf n = column (bit 3 n) (bit 2 n) (bit 1 n) (bit 0 n)
+columnOf n = column (hasBit 3 n) (hasBit 2 n) (hasBit 1 n) (hasBit 0 n)
 
 abbrev pub columnNumber : Column → ℕ
 columnNumber (column a b c d) = 8 * one a + 4 * one b + 2 * one c + one d

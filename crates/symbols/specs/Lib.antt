@@ -1,2 +1,6 @@
+-- What a reader must believe of symbols and columns, in reading order.
+
+-- the four symbols, their sum, product and bits, and a number as a symbol
 pub mod Symbol
+-- columns of four bits: value, parity, top bit, weight and sum, a number as a column, and the column that is fixed by parity, value and top bit
 pub mod Column

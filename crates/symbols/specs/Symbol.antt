@@ -1,5 +1,4 @@
 -- The four symbols, their sum and their product (document 01, 'Columns and their values'; source document 003).
--- Assumes nothing.
 use mathlib.Core.Bool.{Bool, true, false, not}
 use Prim.Native.Nat.{ℕ, _/_, _%_, _^_}
 use lib.Dec.{eqb}
@@ -64,10 +63,10 @@ isZero s1 = false
 isZero s2 = false
 isZero s3 = false
 
--- bit k of a number, the lowest being bit 0
-abbrev pub bit : ℕ → ℕ → Bool
-bit k n = eqb (n / 2 ^ k % 2) 1
+-- whether bit k of a number is one, the lowest being bit 0
+abbrev pub hasBit : ℕ → ℕ → Bool
+hasBit k n = eqb (n / 2 ^ k % 2) 1
 
 -- a number as a symbol, modulo 4
 abbrev pub symbolOf : ℕ → Symbol
-symbolOf n = symbol (bit 1 n) (bit 0 n)
+symbolOf n = symbol (hasBit 1 n) (hasBit 0 n)

@@ -1,18 +1,18 @@
--- What the layers above may cite beside the claims: lists of calls, one call at a time; a slot's status; how many slots a survey counts.
--- Lists of calls go as their definition says, which stays shut there.
--- Assumes nothing.
+-- What the layers above may cite beside the claims: lists of calls, one call at a time; reads and surveys in the paper's values; a slot's
+-- status; what a survey counts. Lists of calls go as their definition says, which stays shut there.
 use mathlib.Core.Path.{_≡_, refl}
 use mathlib.Core.List.{List, [], _∷_}
-use Rattle.trace.specs.Calls.{Call, After, run}
+use Rattle.trace.specs.Calls.{After, run}
+pub use Rattle.trace.proofs.Readings.{read-step, survey-step}
 pub use Rattle.trace.proofs.Statuses.{status-read, status-over, status-blank, status-lost, status-bad}
-pub use Rattle.trace.proofs.Surveys.{slots-few}
+pub use Rattle.trace.proofs.SurveyLaws.{slots-few}
 
-module _ {S : Type 0} (step : Call → S → After S) (s : S) where
+module _ {C S : Type 0} (step : C → S → After S) (s : S) where
   pub run-none : run step [] s ≡ record { answers = []; state = s }
   unfolding run
   run-none = refl
 
-  pub run-more : (c : Call) (cs : List Call) → run step (c ∷ cs) s
+  pub run-more : (c : C) (cs : List C) → run step (c ∷ cs) s
       ≡ record {
         answers = step c s .answer ∷ run step cs (step c s .state) .answers;
         state = run step cs (step c s .state) .state;

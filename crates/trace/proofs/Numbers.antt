@@ -1,9 +1,8 @@
 -- Numbers in bytes, high byte first: a number's bytes give it back, and a loop may take or give them one at a time.
 -- A byte more at the end multiplies the number by 256 and adds the byte, which is how the bytes of a number are defined; so both ways are
 -- one step of the same recursion.
--- Assumes nothing.
 use Prim.Native.Nat.{ℕ, zero, suc, _+_, _*_, _/_, _%_, _^_, _<_, _≤_}
-use mathlib.Core.Path.{_≡_, refl, ap, _∙_}
+use mathlib.Core.Path.{_≡_, refl, _∙_}
 use mathlib.Core.List.{List, [], _∷_, _++_, append-assoc}
 use native.Mathlib.Nat.{pow-suc, pow-le-pow-right, div-add-mod', div-lt-iff-lt-mul, mul-le-mul-right}
 use native.Mathlib.Numerals.{add-one}
@@ -33,7 +32,7 @@ number-bytes (suc k) v h =
 pub bytes-zero : (k : ℕ) → bytesOf k 0 ≡ replicate k 0
 unfolding bytesOf
 bytes-zero zero = refl
-bytes-zero (suc k) = rw (bytes-zero k) (replicate-append-replicate k 1 0 ∙ ap (λ (n : ℕ). replicate n 0) (add-one k))
+bytes-zero (suc k) = rw (bytes-zero k) (rw add-one at (replicate-append-replicate {A = ℕ} k 1 0))
 
 -- a loop that takes bytes from the front: the next one
 pub number-next : (v : ℕ) (xs : List ℕ) (i : ℕ) → i < length xs → numberFrom v (drop i xs) ≡ numberFrom (v * 256 + getD xs i 0) (drop (i + 1) xs)

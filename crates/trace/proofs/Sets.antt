@@ -1,32 +1,36 @@
 -- The plain trace's sets: exclusive or and or with the bit of a position change that position alone, and or does it once. The bit of one
 -- position has no one at another; the digits of both operations are those of their operands' digits.
--- Assumes nothing.
 use Prim.Native.Nat.{ℕ, zero, suc, _+_, _-_, _/_, _%_, _^_, _<_, max}
 use mathlib.Core.Path.{_≡_, refl}
-use mathlib.Core.Logic.{⊎-elim}
+use mathlib.Core.Bool.{Bool, true, false}
 use native.Mathlib.Nat.{pow-suc, div-eq-of-lt, div-self}
 use native.Mathlib.Omega.{arith}
+use lib.Dec.{leb}
 use lib.Pow.{pow-add, pow-lt, pow-pos, shl-shr}
 use lib.Arith.{bin-ind}
 use lib.Bits.{bitXor, bitOr, differ, xor-shr, or-shr, or-step, or-zero-l, or-self}
+use borrow.Author.Tests.{leb-true, leb-false}
 use Rattle.codes.specs.Projection.{width}
 use Rattle.codes.specs.Word.{bit}
 use Rattle.trace.specs.Claims.{FlipToggles, MarkAdds}
 use Rattle.trace.proofs.Xor.{lowest}
-use Rattle.trace.proofs.Refinement.{lt-or-le}
 
 -- the digits of a power of two
 own-digit : (k : ℕ) → 2 ^ k / 2 ^ k % 2 ≡ 1
 own-digit k = rw (div-self (pow-pos k))
 
 other-digit : (j k : ℕ) → (j ≡ k → ⊥) → 2 ^ j / 2 ^ k % 2 ≡ 0
-other-digit j k h = ⊎-elim lower (λ le. higher (j - k - 1) (omega arith)) (lt-or-le j k)
+other-digit j k h = go (leb k j) refl
   where
     lower : j < k → 2 ^ j / 2 ^ k % 2 ≡ 0
     lower lt = rw (div-eq-of-lt (pow-lt lt))
 
     higher : (d : ℕ) → j ≡ suc d + k → 2 ^ j / 2 ^ k % 2 ≡ 0
     higher d e = rw (e, pow-add 2 (suc d) k, shl-shr (2 ^ suc d) k, pow-suc 2 d) (omega arith)
+
+    go : (t : Bool) → leb k j ≡ t → 2 ^ j / 2 ^ k % 2 ≡ 0
+    go true t = let le = leb-true k j t in higher (j - k - 1) (omega (arith, h))
+    go false t = lower (leb-false k j t)
 
 -- or, digit by digit
 or-lowest : (a b : ℕ) → bitOr a b % 2 ≡ max (a % 2) (b % 2)
@@ -41,7 +45,7 @@ max-twice x y = omega arith
 -- what is added stays, if it is added again
 or-twice : (a b : ℕ) → bitOr (bitOr a b) b ≡ bitOr a b
 or-twice =
-    bin-ind (λ (n : ℕ). (b : ℕ) → bitOr (bitOr n b) b ≡ bitOr n b) (λ b. rw or-zero-l (or-self b))
+    bin-ind (λ (n : ℕ). (b : ℕ) → bitOr (bitOr n b) b ≡ bitOr n b) (λ b. rw (or-zero-l b) (or-self b))
     (λ n ih b. cc (or-step (bitOr n b) b, or-half n b, or-lowest n b, or-step n b, ih (b / 2), max-twice (n % 2) (b % 2)))
 
 -- a digit that exclusive or toggles, and one that it keeps

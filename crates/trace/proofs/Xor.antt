@@ -1,5 +1,4 @@
 -- Exclusive or of numbers is associative: its lowest digit is that of the lowest digits, and the rest is that of the halves.
--- Assumes nothing.
 use Prim.Native.Nat.{ℕ, zero, suc, _/_, _%_, _<_}
 use mathlib.Core.Path.{_≡_, refl}
 use native.Mathlib.Omega.{arith}

@@ -1,8 +1,12 @@
--- The calls of a list (document 01, 'The trace'), what a call leaves, and runs of lists of calls.
--- Assumes nothing.
+-- Making and the calls of a list (document 01, 'The trace'), what a call leaves, and runs of lists of calls.
 use mathlib.Core.List.{List, [], _∷_}
 use Prim.Native.Nat.{ℕ}
 use Rattle.codes.specs.Answer.{Answer, accepted, refused}
+
+-- the numbers of a making
+pub record Making : Type 0 where
+  pub code : ℕ
+  pub slots : ℕ
 
 -- a call with its numbers
 pub data Call : Type 0 where
@@ -16,25 +20,25 @@ pub data Call : Type 0 where
   read : ℕ → Call
   survey : Call
 
--- a call's answer, and the state that it leaves: a buffer's bytes, or a plain trace
+-- a call's answer in the paper's numbers, and the state that it leaves: a buffer's bytes, or a plain trace
 pub record After (S : Type 0) : Type 0 where
-  pub answer : Answer
+  pub answer : Answer (List ℕ)
   pub state : S
 
-abbrev pub after : {S : Type 0} → Answer → S → After S
+abbrev pub after : {S : Type 0} → Answer (List ℕ) → S → After S
 after a s = record { answer = a; state = s }
 
 -- 'Refused calls change nothing': a call's answer, the state where it is accepted, and the state before
-abbrev pub settle : {S : Type 0} → Answer → S → S → After S
-settle (accepted vs) new old = after (accepted vs) new
-settle (refused n) new old = after (refused n) old
+abbrev pub outcome : {S : Type 0} → Answer (List ℕ) → S → S → After S
+outcome (accepted vs) new old = after (accepted vs) new
+outcome (refused n) new old = after (refused n) old
 
 -- the answers to a list of calls, and the state at its end: 'Each call gets the buffer as the call before it, accepted or refused, left it'
 pub record Run (S : Type 0) : Type 0 where
-  pub answers : List Answer
+  pub answers : List (Answer (List ℕ))
   pub state : S
 
-unfoldable pub run : {S : Type 0} → (Call → S → After S) → List Call → S → Run S
+unfoldable pub run : {C S : Type 0} → (C → S → After S) → List C → S → Run S
 run step [] s = record { answers = []; state = s }
 run step (c ∷ cs) s =
     record {

@@ -1,12 +1,13 @@
--- The rows of document 01's table 'Refusals by what comes back' that trace calls have. Each says when it is met, from numbers alone;
--- refusal 1 is the codes' own row. The calls' tables stand with the calls.
--- Assumes nothing.
-use mathlib.Core.Bool.{Bool, not, _&&_, _||_}
-use Prim.Native.Nat.{ℕ, _*_, _^_}
+-- The rows of document 01's table 'Refusals by what comes back' that trace calls have. Each says when it is met; refusal 1 is the codes'
+-- own row. The calls' tables stand in 'Rules'.
+use mathlib.Core.Bool.{Bool, true, false, not, _&&_, _||_}
+use Prim.Native.Nat.{ℕ, _^_}
 use lib.Dec.{leb, ltb, eqb}
 use Rattle.codes.specs.Answer.{Row}
 use Rattle.codes.specs.Projection.{Projection, width}
 use Rattle.codes.specs.Codes.{isCode, stepLimit}
+use Rattle.trace.specs.declared.slot.Content.{Content}
+use Rattle.trace.specs.Layout.{distanceOf}
 
 abbrev pub isCount : ℕ → Bool
 isCount n = leb 1 n && leb n 4000
@@ -21,7 +22,7 @@ tooShort length size = record { number = 7; met = ltb length size }
 
 -- 'edition, code, N or distance unfit, or distance beyond the bytes before the trailer'
 unfoldable pub isFit : ℕ → ℕ → ℕ → ℕ → ℕ → Bool
-isFit before distance n code edition = eqb edition 1 && (isCode code && (isCount n && (eqb distance (11 * n) && leb distance before)))
+isFit before distance n code edition = eqb edition 1 && (isCode code && (isCount n && (eqb distance (distanceOf n) && leb distance before)))
 
 abbrev pub trailerUnfit : ℕ → ℕ → ℕ → ℕ → ℕ → Row
 trailerUnfit before distance n code edition = record { number = 8; met = not (isFit before distance n code edition) }
@@ -30,17 +31,27 @@ trailerUnfit before distance n code edition = record { number = 8; met = not (is
 abbrev pub noSlot : ℕ → ℕ → Row
 noSlot n slot = record { number = 9; met = leb n slot }
 
--- 'named slot has another state, a set unused bit, or is blank and not zero'
+-- 'named slot has another state, a set unused bit, or is blank and not zero': of a slot's numbers, and so of what it holds
 unfoldable pub isBad : Projection → ℕ → ℕ → ℕ → Bool
 isBad π state word marks =
     leb 2 state || (leb (2 ^ width π) word || (leb (2 ^ width π) marks || (eqb state 0 && not (eqb word 0 && eqb marks 0))))
 
-abbrev pub badSlot : Projection → ℕ → ℕ → ℕ → Row
-badSlot π state word marks = record { number = 10; met = isBad π state word marks }
+abbrev pub holdsBad : Content → Bool
+holdsBad Content.Blank = false
+holdsBad Content.Bad = true
+holdsBad (Content.Written word marks) = false
+
+abbrev pub badSlot : Content → Row
+badSlot c = record { number = 10; met = holdsBad c }
 
 -- 'slot blank'
-abbrev pub blankSlot : ℕ → Row
-blankSlot state = record { number = 11; met = eqb state 0 }
+abbrev pub holdsNothing : Content → Bool
+holdsNothing Content.Blank = true
+holdsNothing Content.Bad = false
+holdsNothing (Content.Written word marks) = false
+
+abbrev pub blankSlot : Content → Row
+blankSlot c = record { number = 11; met = holdsNothing c }
 
 -- 'position not in the word'
 abbrev pub noPosition : Projection → ℕ → Row

@@ -1,94 +1,95 @@
 -- What each trace call answers, and the bytes that it leaves, whatever the buffer holds (document 01, 'The trace' and 'Refusals by what
 -- comes back').
--- Assumes nothing.
-use mathlib.Core.List.{List, [], _∷_}
-use Prim.Native.Nat.{ℕ, _+_, _*_, _/_, _%_}
+use mathlib.Core.Bool.{cond}
+use mathlib.Core.List.{List, [], _∷_, _++_, map}
+use Prim.Native.Nat.{ℕ}
+use lib.Dec.{eqb}
 use lib.ListN.{length}
-use lib.Bits.{bitXor, bitOr}
-use Rattle.codes.specs.Answer.{Answer, accepted, refused, Row, unless}
+use Rattle.codes.specs.Answer.{Answer, accepted, Row, unless}
 use Rattle.codes.specs.Projection.{Projection}
-use Rattle.codes.specs.Word.{bit}
-use Rattle.codes.specs.Message.{encode}
-use Rattle.codes.specs.Mending.{Mended, near, none, mend}
 use Rattle.codes.specs.Codes.{projection, codeOf, unknownCode}
-use Rattle.trace.specs.Layout.{trailerAt, distanceIn, countIn, codeIn, editionIn, placeIn, stateAt, wordAt, marksAt, storeAt, made}
-use Rattle.trace.specs.Calls.{Call, put, flip, mark, clear, read, survey, After, settle}
-use Rattle.trace.specs.Refusals.{wrongCount, tooShort, trailerUnfit, noSlot, badSlot, blankSlot, noPosition, tooLarge}
+use Rattle.trace.specs.declared.layout.Place.{Place}
+use Rattle.trace.specs.declared.slot.Content.{Content}
+use Rattle.trace.specs.declared.answer.Reading.{Reading}
+use Rattle.trace.specs.declared.answer.Survey.{Survey}
+use Rattle.trace.specs.Lists.{span}
+use Rattle.trace.specs.Calls.{Call, put, flip, mark, clear, read, survey, Making, After, outcome}
+use Rattle.trace.specs.Layout.{trailerSize, neededFor, trailerAt, distanceIn, countIn, codeIn, editionIn, placeIn, stateAt, wordAt, marksAt}
+use Rattle.trace.specs.Layout.{contentBytes, storeAt, made}
+use Rattle.trace.specs.View.{View, countOf, contentOf, readAlone, messageOf, putContent, flipContent, markContent}
 use Rattle.trace.specs.Survey.{surveyOf}
+use Rattle.trace.specs.Refusals.{wrongCount, tooShort, trailerUnfit, noSlot, isBad}
+use Rattle.trace.specs.Rules.{refusals, gives}
 
--- the code of a buffer's trace
+-- ---- what a call sees of a buffer
+
 abbrev pub projectionIn : List ℕ → Projection
 projectionIn b = projection (codeOf (codeIn b))
 
--- 'message = step·4096 + reading'
-abbrev pub messageOf : ℕ → ℕ → ℕ
-messageOf step reading = step * 4096 + reading
+-- what a slot with these numbers holds
+unfoldable pub contentWith : Projection → ℕ → ℕ → ℕ → Content
+contentWith π state word marks =
+    cond (isBad π state word marks) Content.Bad (cond (eqb state 0) Content.Blank (Content.Written word marks))
 
--- 'Read mends and gives step, reading, wrong, marks'
-unfoldable pub readMended : Mended → Answer
-readMended (near codeword message wrong marks) = accepted (message / 4096 ∷ message % 4096 ∷ wrong ∷ marks ∷ [])
-readMended none = refused 5
+abbrev pub contentAt : Projection → List ℕ → Place → Content
+contentAt π b p = contentWith π (stateAt b p) (wordAt b p) (marksAt b p)
 
--- the rows that look at a buffer: 7 and 8 of every call, 9 of slot calls, 10 and 11 of read, flip and mark
+unfoldable pub viewIn : List ℕ → View
+viewIn b = record { code = projectionIn b; slots = map (λ slot. contentAt (projectionIn b) b (placeIn b slot)) (span 0 (countIn b)) }
+
+-- ---- refusals
+
+-- the rows that look at a buffer's length and trailer
 abbrev pub short : List ℕ → Row
-short b = tooShort (length b) 8
+short b = tooShort (length b) trailerSize
 
 abbrev pub unfit : List ℕ → Row
 unfit b = trailerUnfit (trailerAt b) (distanceIn b) (countIn b) (codeIn b) (editionIn b)
 
-abbrev pub absent : List ℕ → ℕ → Row
-absent b slot = noSlot (countIn b) slot
+abbrev pub trailerRows : List ℕ → List Row
+trailerRows b = short b ∷ unfit b ∷ []
 
-abbrev pub bad : List ℕ → ℕ → Row
-bad b slot = badSlot (projectionIn b) (stateAt b (placeIn b slot)) (wordAt b (placeIn b slot)) (marksAt b (placeIn b slot))
+-- all refusals of a call on a buffer, in order
+abbrev pub refusalsIn : Call → List ℕ → List Row
+refusalsIn c b = trailerRows b ++ refusals c (viewIn b)
 
-abbrev pub blank : List ℕ → ℕ → Row
-blank b slot = blankSlot (stateAt b (placeIn b slot))
+-- those that a call passes to come to its slot
+abbrev pub slotRowsIn : List ℕ → ℕ → List Row
+slotRowsIn b slot = trailerRows b ++ (noSlot (countOf (viewIn b)) slot ∷ [])
 
--- the refusals of each call, in order
-abbrev pub refusals : Call → List ℕ → List Row
-refusals (put slot step reading) b = short b ∷ unfit b ∷ absent b slot ∷ tooLarge (projectionIn b) step reading ∷ []
-refusals (flip slot position) b =
-    short b ∷ unfit b ∷ absent b slot ∷ bad b slot ∷ blank b slot ∷ noPosition (projectionIn b) position ∷ []
-refusals (mark slot position) b =
-    short b ∷ unfit b ∷ absent b slot ∷ bad b slot ∷ blank b slot ∷ noPosition (projectionIn b) position ∷ []
-refusals (clear slot) b = short b ∷ unfit b ∷ absent b slot ∷ []
-refusals (read slot) b = short b ∷ unfit b ∷ absent b slot ∷ bad b slot ∷ blank b slot ∷ []
-refusals survey b = short b ∷ unfit b ∷ []
+-- ---- what a call leaves
 
--- what a read gives where none of them is met: 5 'is tried only after all others pass'
-unfoldable pub mendedAt : List ℕ → ℕ → Answer
-mendedAt b slot = readMended (mend (projectionIn b) (wordAt b (placeIn b slot)) (marksAt b (placeIn b slot)))
+-- a buffer with another content in a slot
+unfoldable pub stored : ℕ → Content → List ℕ → List ℕ
+stored slot c b = storeAt b (placeIn b slot) (contentBytes c)
 
-unfoldable pub readOf : List ℕ → ℕ → Answer
-readOf b slot = unless (refusals (read slot) b) (mendedAt b slot)
-
--- what each call gives where none of its refusals is met
-abbrev pub gives : Call → List ℕ → Answer
-gives (put slot step reading) b = accepted []
-gives (flip slot position) b = accepted []
-gives (mark slot position) b = accepted []
-gives (clear slot) b = accepted []
-gives (read slot) b = mendedAt b slot
-gives survey b = surveyOf (readOf b) (countIn b)
-
--- the bytes that each call leaves where it is accepted: 'Put writes the codeword and no marks. Flip inverts one stored bit. Mark marks
--- one; a second mark changes nothing. Clear blanks.'
+-- the bytes that each call leaves where it is accepted; 'Clear blanks'
 abbrev pub leaves : Call → List ℕ → List ℕ
-leaves (put slot step reading) b = storeAt b (placeIn b slot) 1 (encode (projectionIn b) (messageOf step reading)) 0
-leaves (flip slot position) b =
-    storeAt b (placeIn b slot) 1 (bitXor (wordAt b (placeIn b slot)) (bit (projectionIn b) position)) (marksAt b (placeIn b slot))
-leaves (mark slot position) b =
-    storeAt b (placeIn b slot) 1 (wordAt b (placeIn b slot)) (bitOr (marksAt b (placeIn b slot)) (bit (projectionIn b) position))
-leaves (clear slot) b = storeAt b (placeIn b slot) 0 0 0
+leaves (put slot step reading) b = stored slot (putContent (projectionIn b) (messageOf step reading)) b
+leaves (flip slot position) b = stored slot (flipContent (projectionIn b) position (contentOf (viewIn b) slot)) b
+leaves (mark slot position) b = stored slot (markContent (projectionIn b) position (contentOf (viewIn b) slot)) b
+leaves (clear slot) b = stored slot Content.Blank b
 leaves (read slot) b = b
 leaves survey b = b
 
+-- ---- the calls
+
 -- a call on a buffer's bytes
 unfoldable pub onBytes : Call → List ℕ → After (List ℕ)
-onBytes c b = settle (unless (refusals c b) (gives c b)) (leaves c b) b
+onBytes c b = outcome (unless (refusalsIn c b) (gives c (viewIn b))) (leaves c b) b
 
--- making, with a code's number and the number of slots
-unfoldable pub make : ℕ → ℕ → List ℕ → After (List ℕ)
-make code n b =
-    settle (unless (unknownCode code ∷ wrongCount n ∷ tooShort (length b) (11 * n + 8) ∷ []) (accepted [])) (made code n b) b
+-- making
+abbrev pub makeRows : Making → List ℕ → List Row
+makeRows m b = unknownCode (m .code) ∷ wrongCount (m .slots) ∷ tooShort (length b) (neededFor (m .slots)) ∷ []
+
+unfoldable pub make : Making → List ℕ → After (List ℕ)
+make m b = outcome (unless (makeRows m b) (accepted [])) (made m b) b
+
+-- ---- what a survey and a listing take from a buffer
+
+-- a read of a slot by what that slot alone holds
+unfoldable pub aloneIn : List ℕ → ℕ → Answer Reading
+aloneIn b slot = unless (slotRowsIn b slot) (readAlone (viewIn b) slot)
+
+unfoldable pub surveyIn : List ℕ → Answer Survey
+surveyIn b = unless (trailerRows b) (accepted (surveyOf (viewIn b)))

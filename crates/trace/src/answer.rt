@@ -1,11 +1,12 @@
 // What the trace calls answer.
 ghost use mathlib.Core.Path.{_≡_};
-ghost use Rattle.trace.specs.Answers.{refusalNumber};
+ghost use Prim.Native.Nat.{_≤_};
+ghost use lib.ListN.{length};
+ghost use Rattle.trace.specs.Answers.{refusalNumber, readingValues, countsValues, pressuresValues, pressuresInThree, surveyInNine};
 
-// Why a call is refused.
+// Why a call is refused: as a word call is, or for a reason of the trace's own.
 pub enum Refusal {
-    UnknownCode,
-    NoneNear,
+    Word(codes::Refusal),
     WrongCount,
     BufferShort,
     TrailerUnfit,
@@ -22,8 +23,7 @@ impl Refusal {
         ensures { λ r. ⌜ r ≡ refusalNumber self ⌝ }
     {
         match self {
-            Refusal::UnknownCode => 1,
-            Refusal::NoneNear => 5,
+            Refusal::Word(r) => r.number(),
             Refusal::WrongCount => 6,
             Refusal::BufferShort => 7,
             Refusal::TrailerUnfit => 8,
@@ -42,7 +42,7 @@ pub enum Done {
     Refused(Refusal),
 }
 
-// A mended message's step and reading, the unmarked positions that were wrong, and the number of marks.
+// A corrected message's step and reading, the unmarked positions that were wrong, and the number of marks.
 pub struct Reading {
     pub step: u64,
     pub reading: u64,
@@ -50,10 +50,37 @@ pub struct Reading {
     pub marks: u64,
 }
 
+impl Reading {
+    // Step, reading, wrong, marks.
+    pub fn values(self) -> [u64; 4]
+        ensures { λ r. ⌜ r ≡ readingValues self ⌝ }
+    {
+        [self.step, self.reading, self.wrong, self.marks]
+    }
+}
+
 // Of read.
 pub enum ReadAnswer {
-    Mended(Reading),
+    Corrected(Reading),
     Refused(Refusal),
+}
+
+// How many slots have each status.
+pub struct Counts {
+    pub blank: u64,
+    pub read: u64,
+    pub over: u64,
+    pub lost: u64,
+    pub bad: u64,
+}
+
+impl Counts {
+    // Blank, read, over, lost, bad.
+    pub fn values(self) -> [u64; 5]
+        ensures { λ r. ⌜ r ≡ countsValues self ⌝ }
+    {
+        [self.blank, self.read, self.over, self.lost, self.bad]
+    }
 }
 
 // Smallest, largest and mean of the readings 0 to 4094; absent where there are none.
@@ -62,19 +89,60 @@ pub enum Pressures {
     Present(u64, u64, u64),
 }
 
-// How many slots are blank, read, over, lost and bad; the sum of the readings 0 to 4094, and more of them.
+impl Pressures {
+    // How many values they are: none or three.
+    fn count(self) -> usize
+        ensures { λ r. ⌜ (r ≡ length (pressuresValues self)) × (r ≤ 3) ⌝ }
+    {
+        match self {
+            Pressures::Absent => 0,
+            Pressures::Present(_, _, _) => 3,
+        }
+    }
+
+    // The three values, zeros where they are absent.
+    fn in_three(self) -> [u64; 3]
+        ensures { λ r. ⌜ r ≡ pressuresInThree self ⌝ }
+    {
+        match self {
+            Pressures::Absent => [0, 0, 0],
+            Pressures::Present(smallest, largest, mean) => [smallest, largest, mean],
+        }
+    }
+}
+
+// The number of slots and their counts; the sum of the readings 0 to 4094, and more of them.
 pub struct Survey {
-    pub blank: u64,
-    pub read: u64,
-    pub over: u64,
-    pub lost: u64,
-    pub bad: u64,
+    pub slots: u64,
+    pub counts: Counts,
     pub sum: u64,
     pub pressures: Pressures,
 }
 
+// A survey's values: how many there are, and as many; 0 past the last.
+pub struct SurveyValues {
+    pub count: usize,
+    pub values: [u64; 9],
+}
+
+impl Survey {
+    // The counts and the sum, then smallest, largest and mean where they are present.
+    pub fn values(self) -> SurveyValues
+        ensures { λ r. ⌜ r ≡ surveyInNine self ⌝ }
+    {
+        let counts = self.counts;
+        let c = counts.values();
+        let pressures = self.pressures;
+        let p = pressures.in_three();
+        SurveyValues {
+            count: 6 + pressures.count(),
+            values: [c[0], c[1], c[2], c[3], c[4], self.sum, p[0], p[1], p[2]],
+        }
+    }
+}
+
 // Of survey.
 pub enum SurveyAnswer {
-    Counts(Survey),
+    Surveyed(Survey),
     Refused(Refusal),
 }

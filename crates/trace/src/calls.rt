@@ -5,33 +5,34 @@ use crate::answer::Refusal;
 use crate::change::Change;
 use crate::change::change_slot;
 use crate::layout::Found;
-use crate::layout::SLOT;
-use crate::layout::TRAILER;
 use crate::layout::find;
 use crate::layout::is_count;
-use crate::layout::lay;
-use crate::slot::read_at;
+use crate::layout::needed;
+use crate::layout::write_blank;
+use crate::slot::content_at;
+use crate::slot::read_content;
 use codes::Code;
 use codes::CodeFound;
 ghost use mathlib.Core.Path.{_≡_};
+ghost use Rattle.codes.specs.Answer.{mapAnswer};
 ghost use Rattle.trace.specs.Calls.{after, put, flip, mark, clear, read};
-ghost use Rattle.trace.specs.Trace.{onBytes, make};
-ghost use Rattle.trace.specs.Answers.{doneAnswer, readAnswer};
+ghost use Rattle.trace.specs.Trace.{onBytes, make, aloneIn};
+ghost use Rattle.trace.specs.Answers.{doneAnswer, readAnswer, readingValues};
 
 // Makes a trace of blank slots at the buffer's end. Refusals 1, 6 and 7.
 pub fn make(b: &mut [u8], code: u64, slots: u64) -> Done
-    ensures { λ r. ⌜ after (doneAnswer r) (now (b .exit)) ≡ make code slots (now (b .entry)) ⌝ }
+    ensures { λ r. ⌜ after (doneAnswer r) (now (b .exit)) ≡ make (record { code = code; slots = slots }) (now (b .entry)) ⌝ }
 {
     let CodeFound::Code(_) = Code::from_number(code) else {
-        return Done::Refused(Refusal::UnknownCode);
+        return Done::Refused(Refusal::Word(codes::Refusal::UnknownCode));
     };
     if !is_count(slots) {
         return Done::Refused(Refusal::WrongCount);
     }
-    if b.len() < SLOT * slots as usize + TRAILER {
+    if b.len() < needed(slots as usize) {
         return Done::Refused(Refusal::BufferShort);
     }
-    lay(b, code, slots);
+    write_blank(b, code, slots);
     Done::Accepted
 }
 
@@ -63,12 +64,19 @@ pub fn clear(b: &mut [u8], slot: u64) -> Done
     change_slot(b, slot, Change::Clear)
 }
 
-// Mends a slot. Refusals 7 to 11, then 5.
-pub fn read(b: &[u8], slot: u64) -> ReadAnswer
-    ensures { λ r. ⌜ after (readAnswer r) (now (b .entry)) ≡ onBytes (read slot) (now (b .entry)) ⌝ }
+// Mends a slot by what it alone holds, as survey and listing take it. Refusals 7 to 11, then 5.
+pub fn read_alone(b: &[u8], slot: u64) -> ReadAnswer
+    ensures { λ r. ⌜ readAnswer r ≡ aloneIn (now (b .entry)) slot ⌝ }
 {
     match find(b, slot) {
         Found::Refused(r) => ReadAnswer::Refused(r),
-        Found::At(place, code) => read_at(b, place, code),
+        Found::At(place, code) => read_content(code, content_at(b, place, code)),
     }
+}
+
+// Mends a slot. Refusals 7 to 11, then 5.
+pub fn read(b: &[u8], slot: u64) -> ReadAnswer
+    ensures { λ r. ⌜ after (mapAnswer readingValues (readAnswer r)) (now (b .entry)) ≡ onBytes (read slot) (now (b .entry)) ⌝ }
+{
+    read_alone(b, slot)
 }

@@ -1,23 +1,20 @@
-// What put, flip, mark and clear do to a slot that is found.
+// What put, flip, mark and clear make of a slot's content, and a change of a slot in a buffer.
 use crate::answer::Done;
 use crate::answer::Refusal;
 use crate::layout::Found;
-use crate::layout::Place;
 use crate::layout::find;
+use crate::slot::Content;
 use crate::slot::READINGS;
-use crate::slot::Target;
-use crate::slot::aim;
-use crate::slot::blank_slot;
-use crate::slot::write_slot;
+use crate::slot::content_at;
+use crate::slot::write_content;
 use codes::Code;
 use codes::Encoded;
 ghost use mathlib.Core.Path.{_≡_};
-ghost use lib.ListN.{length};
 ghost use Rattle.codes.specs.Codes.{projection};
 ghost use Rattle.trace.specs.Calls.{after};
 ghost use Rattle.trace.specs.Trace.{onBytes};
 ghost use Rattle.trace.specs.Answers.{doneAnswer};
-ghost use Rattle.trace.specs.Found.{Room, callOf, changeAt};
+ghost use Rattle.trace.specs.ContractsOfSteps.{callOf, FindingBit, Changing};
 
 // A change of a slot.
 pub(crate) enum Change {
@@ -29,65 +26,79 @@ pub(crate) enum Change {
     Clear,
 }
 
-// Refusal 13: writes a message's codeword and no marks.
-fn put_at(b: &mut [u8], place: Place, code: Code, step: u64, reading: u64) -> Done
-    requires { ⌜ Room (length (now b)) place ⌝ }
-    ensures { λ r. ⌜ after (doneAnswer r) (now (b .exit)) ≡ changeAt (projection code) place (Change.Put step reading) (now (b .entry)) ⌝ }
+// What a changed slot holds then, or why the change is refused.
+pub(crate) enum Changed {
+    To(Content),
+    Refused(Refusal),
+}
+
+// A written slot's word and marks, and the bit of a position.
+pub(crate) enum BitFound {
+    At(u64, u64, u64),
+    Refused(Refusal),
+}
+
+// Refusal 13: a message's codeword and no marks, whatever the slot held.
+fn put_content(code: Code, step: u64, reading: u64) -> Changed
+    ensures { λ r. ⌜ ((old : Content) → Changing (projection code) old (Change.Put step reading) r) ⌝ }
 {
     if code.step_limit() <= step {
-        return Done::Refused(Refusal::TooLarge);
+        return Changed::Refused(Refusal::TooLarge);
     }
     if READINGS <= reading {
-        return Done::Refused(Refusal::TooLarge);
+        return Changed::Refused(Refusal::TooLarge);
     }
     let Encoded::Word(word) = code.encode(step * READINGS + reading) else {
-        return Done::Refused(Refusal::TooLarge);
+        return Changed::Refused(Refusal::TooLarge);
     };
-    write_slot(b, place, word, 0);
-    Done::Accepted
+    Changed::To(Content::Written(word, 0))
 }
 
-// Refusals 10, 11 and 12: inverts a stored bit.
-fn flip_at(b: &mut [u8], place: Place, code: Code, position: u64) -> Done
-    requires { ⌜ Room (length (now b)) place ⌝ }
-    ensures { λ r. ⌜ after (doneAnswer r) (now (b .exit)) ≡ changeAt (projection code) place (Change.Flip position) (now (b .entry)) ⌝ }
+// Refusals 10, 11 and 12: a written slot's word and marks, and the bit of a position.
+fn find_bit(code: Code, content: Content, position: u64) -> BitFound
+    ensures { λ r. ⌜ FindingBit (projection code) content position r ⌝ }
 {
-    match aim(b, place, code, position) {
-        Target::Refused(r) => Done::Refused(r),
-        Target::Bit(word, marks, bit) => {
-            write_slot(b, place, word ^ bit, marks);
-            Done::Accepted
+    match content {
+        Content::Bad => BitFound::Refused(Refusal::SlotBad),
+        Content::Blank => BitFound::Refused(Refusal::SlotBlank),
+        Content::Written(word, marks) => {
+            if code.width() <= position {
+                return BitFound::Refused(Refusal::NoPosition);
+            }
+            BitFound::At(word, marks, code.word_limit() >> (position + 1))
         }
     }
 }
 
-// Refusals 10, 11 and 12: marks a stored bit.
-fn mark_at(b: &mut [u8], place: Place, code: Code, position: u64) -> Done
-    requires { ⌜ Room (length (now b)) place ⌝ }
-    ensures { λ r. ⌜ after (doneAnswer r) (now (b .exit)) ≡ changeAt (projection code) place (Change.Mark position) (now (b .entry)) ⌝ }
+// A stored bit inverted.
+fn flip_content(code: Code, content: Content, position: u64) -> Changed
+    ensures { λ r. ⌜ Changing (projection code) content (Change.Flip position) r ⌝ }
 {
-    match aim(b, place, code, position) {
-        Target::Refused(r) => Done::Refused(r),
-        Target::Bit(word, marks, bit) => {
-            write_slot(b, place, word, marks | bit);
-            Done::Accepted
-        }
+    match find_bit(code, content, position) {
+        BitFound::Refused(r) => Changed::Refused(r),
+        BitFound::At(word, marks, bit) => Changed::To(Content::Written(word ^ bit, marks)),
     }
 }
 
-// Changes the slot at a place.
-fn change_at(b: &mut [u8], place: Place, code: Code, change: Change) -> Done
-    requires { ⌜ Room (length (now b)) place ⌝ }
-    ensures { λ r. ⌜ after (doneAnswer r) (now (b .exit)) ≡ changeAt (projection code) place change (now (b .entry)) ⌝ }
+// A stored bit marked.
+fn mark_content(code: Code, content: Content, position: u64) -> Changed
+    ensures { λ r. ⌜ Changing (projection code) content (Change.Mark position) r ⌝ }
+{
+    match find_bit(code, content, position) {
+        BitFound::Refused(r) => Changed::Refused(r),
+        BitFound::At(word, marks, bit) => Changed::To(Content::Written(word, marks | bit)),
+    }
+}
+
+// What a slot holds after a change.
+fn change_content(code: Code, content: Content, change: Change) -> Changed
+    ensures { λ r. ⌜ Changing (projection code) content change r ⌝ }
 {
     match change {
-        Change::Put(step, reading) => put_at(b, place, code, step, reading),
-        Change::Flip(position) => flip_at(b, place, code, position),
-        Change::Mark(position) => mark_at(b, place, code, position),
-        Change::Clear => {
-            blank_slot(b, place);
-            Done::Accepted
-        }
+        Change::Put(step, reading) => put_content(code, step, reading),
+        Change::Flip(position) => flip_content(code, content, position),
+        Change::Mark(position) => mark_content(code, content, position),
+        Change::Clear => Changed::To(Content::Blank),
     }
 }
 
@@ -97,6 +108,12 @@ pub(crate) fn change_slot(b: &mut [u8], slot: u64, change: Change) -> Done
 {
     match find(b, slot) {
         Found::Refused(r) => Done::Refused(r),
-        Found::At(place, code) => change_at(b, place, code, change),
+        Found::At(place, code) => match change_content(code, content_at(b, place, code), change) {
+            Changed::Refused(r) => Done::Refused(r),
+            Changed::To(content) => {
+                write_content(b, place, content);
+                Done::Accepted
+            }
+        },
     }
 }

@@ -5,17 +5,22 @@ use crate::bytes::store;
 use codes::Code;
 use codes::CodeFound;
 ghost use mathlib.Core.Path.{_≡_};
-ghost use Prim.Native.Nat.{_+_, _*_, _^_, _<_, _≤_};
+ghost use Prim.Native.Nat.{_+_, _^_, _<_, _≤_};
 ghost use lib.ListN.{length};
-ghost use Rattle.trace.specs.Layout.{placeFrom, overwrite, trailer, made};
+ghost use Rattle.trace.specs.Layout.{trailerSize, distanceOf, neededFor, placeFrom, overwrite, trailer, made};
 ghost use Rattle.trace.specs.Refusals.{isCount};
-ghost use Rattle.trace.specs.Found.{Fitting, Opening, Finding};
+ghost use Rattle.trace.specs.ContractsOfSteps.{Fitting, Opening, Finding};
 
-// The bytes of a slot.
-pub(crate) const SLOT: usize = 11;
+// The bytes of a slot's state, and of its word or marks.
+pub(crate) const STATE: usize = 1;
+
+pub(crate) const WORD: usize = 5;
+
+// The bytes of a slot: a trace of n slots has n times as many, and then those of the trailer.
+pub const SLOT: usize = STATE + WORD + WORD;
 
 // The bytes of the trailer.
-pub(crate) const TRAILER: usize = 8;
+pub const TRAILER: usize = 8;
 
 // The most slots of a trace.
 const MOST_SLOTS: u64 = 4000;
@@ -56,22 +61,39 @@ pub(crate) fn is_count(slots: u64) -> bool
     1 <= slots && slots <= MOST_SLOTS
 }
 
-// The place of a slot, with slot 0 at `start`.
-pub(crate) fn place_from(start: usize, slot: usize) -> Place
-    requires { ⌜ start + 11 * slot + 11 < 2 ^ 64 ⌝ }
-    ensures { λ r. ⌜ r ≡ placeFrom start slot ⌝ }
+// The bytes of so many slots.
+fn distance(slots: usize) -> usize
+    requires { ⌜ slots ≤ 4000 ⌝ }
+    ensures { λ r. ⌜ r ≡ distanceOf slots ⌝ }
 {
-    let at = start + SLOT * slot;
+    SLOT * slots
+}
+
+// The bytes that making needs for so many slots.
+pub(crate) fn needed(slots: usize) -> usize
+    requires { ⌜ slots ≤ 4000 ⌝ }
+    ensures { λ r. ⌜ r ≡ neededFor slots ⌝ }
+{
+    distance(slots) + TRAILER
+}
+
+// The place of a slot.
+pub(crate) fn place_of(h: Header, slot: usize) -> Place
+    requires { ⌜ (slot < h .slots) × (h .start + distanceOf (h .slots) < 2 ^ 64) ⌝ }
+    ensures { λ r. ⌜ r ≡ placeFrom (h .start) slot ⌝ }
+{
+    let state = h.start + SLOT * slot;
+    let word = state + STATE;
     Place {
-        state: at,
-        word: at + 1,
-        marks: at + 6,
+        state: state,
+        word: word,
+        marks: word + WORD,
     }
 }
 
 // Refusal 8: whether a trailer's numbers are fit, with so many bytes before it.
-fn fit(before: usize, distance: u64, slots: u64, number: u64, edition: u64) -> Opened
-    ensures { λ r. ⌜ Fitting before distance slots number edition r ⌝ }
+fn fit(before: usize, back: u64, slots: u64, number: u64, edition: u64) -> Opened
+    ensures { λ r. ⌜ Fitting before back slots number edition r ⌝ }
 {
     if edition != EDITION {
         return Opened::Refused(Refusal::TrailerUnfit);
@@ -82,16 +104,16 @@ fn fit(before: usize, distance: u64, slots: u64, number: u64, edition: u64) -> O
     if !is_count(slots) {
         return Opened::Refused(Refusal::TrailerUnfit);
     }
-    let back = distance as usize;
+    let size = back as usize;
     let count = slots as usize;
-    if back != SLOT * count {
+    if size != distance(count) {
         return Opened::Refused(Refusal::TrailerUnfit);
     }
-    if before < back {
+    if before < size {
         return Opened::Refused(Refusal::TrailerUnfit);
     }
     Opened::Fit(Header {
-        start: before - back,
+        start: before - size,
         slots: count,
         code: code,
     })
@@ -121,36 +143,35 @@ pub(crate) fn find(b: &[u8], slot: u64) -> Found
     match open(b) {
         Opened::Refused(r) => Found::Refused(r),
         Opened::Fit(h) => {
-            let start = h.start;
             let slots = h.slots;
             let code = h.code;
             let i = slot as usize;
             if slots <= i {
                 return Found::Refused(Refusal::NoSlot);
             }
-            Found::At(place_from(start, i), code)
+            Found::At(place_of(h, i), code)
         }
     }
 }
 
 // Writes the trailer.
-fn seal(b: &mut [u8], at: usize, code: u64, slots: u64)
-    requires { ⌜ (at + 8 ≤ length (now b)) × (slots ≤ 4000) ⌝ }
+fn write_trailer(b: &mut [u8], at: usize, code: u64, slots: u64)
+    requires { ⌜ (at + trailerSize ≤ length (now b)) × (slots ≤ 4000) ⌝ }
     ensures { λ _. ⌜ now (b .exit) ≡ overwrite (now (b .entry)) at (trailer code slots) ⌝ }
 {
-    store(b, at, 4, SLOT as u64 * slots);
+    store(b, at, 4, distance(slots as usize) as u64);
     store(b, at + 4, 2, slots);
     store(b, at + 6, 1, code);
     store(b, at + 7, 1, EDITION);
 }
 
 // Writes blank slots and the trailer at the buffer's end.
-pub(crate) fn lay(b: &mut [u8], code: u64, slots: u64)
-    requires { ⌜ (11 * slots + 8 ≤ length (now b)) × (slots ≤ 4000) ⌝ }
-    ensures { λ _. ⌜ now (b .exit) ≡ made code slots (now (b .entry)) ⌝ }
+pub(crate) fn write_blank(b: &mut [u8], code: u64, slots: u64)
+    requires { ⌜ (neededFor slots ≤ length (now b)) × (slots ≤ 4000) ⌝ }
+    ensures { λ _. ⌜ now (b .exit) ≡ made (record { code = code; slots = slots }) (now (b .entry)) ⌝ }
 {
-    let size = SLOT * slots as usize;
+    let size = distance(slots as usize);
     let t = b.len() - TRAILER;
     store(b, t - size, size, 0);
-    seal(b, t, code, slots);
+    write_trailer(b, t, code, slots);
 }

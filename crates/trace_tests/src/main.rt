@@ -4,9 +4,9 @@ mod show;
 
 use show::bytes_changed;
 use show::named;
-use show::tell_done;
-use show::tell_read;
-use show::tell_survey;
+use show::show_done;
+use show::show_read;
+use show::show_survey;
 use show::text;
 use trace::Done;
 ghost use Prim.Native.Nat.{_≤_, _<_};
@@ -20,7 +20,7 @@ fn make(buffer: [u8; 64], length: usize, code: u64, slots: u64) -> [u8; 64]
     named(b"make ", code);
     named(b" ", slots);
     named(b" in ", length as u64);
-    tell_done(answer);
+    show_done(answer);
     bytes_changed(&buffer, &b);
     b
 }
@@ -32,7 +32,7 @@ fn make_large(length: usize, slots: u64)
     let mut b = [0u8; 44019];
     named(b"make ", slots);
     named(b" slots in ", length as u64);
-    tell_done(trace::make(&mut b[0..length], 4, slots));
+    show_done(trace::make(&mut b[0..length], 4, slots));
     text(b"\n");
 }
 
@@ -48,7 +48,7 @@ enum Call {
 }
 
 // The call's name and numbers.
-fn tell_call(call: Call) {
+fn show_call(call: Call) {
     match call {
         Call::Put(slot, step, reading) => {
             named(b"put ", slot);
@@ -83,8 +83,8 @@ fn change(buffer: [u8; 64], length: usize, call: Call) -> [u8; 64]
 {
     let mut b = buffer;
     let answer = run(&mut b[0..length], call);
-    tell_call(call);
-    tell_done(answer);
+    show_call(call);
+    show_done(answer);
     bytes_changed(&buffer, &b);
     b
 }
@@ -118,7 +118,7 @@ fn read(buffer: [u8; 64], length: usize, slot: u64)
     requires { ⌜ length ≤ 64 ⌝ }
 {
     named(b"read ", slot);
-    tell_read(trace::read(&buffer[0..length], slot));
+    show_read(trace::read(&buffer[0..length], slot));
     text(b"\n");
 }
 
@@ -126,7 +126,7 @@ fn survey(buffer: [u8; 64], length: usize)
     requires { ⌜ length ≤ 64 ⌝ }
 {
     text(b"survey");
-    tell_survey(trace::survey(&buffer[0..length]));
+    show_survey(trace::survey(&buffer[0..length]));
     text(b"\n");
 }
 

@@ -1,7 +1,6 @@
-// Answers on standard output.
+// Answers on standard output, each after a colon.
 use libc::STDOUT_FILENO;
 use trace::Done;
-use trace::Pressures;
 use trace::ReadAnswer;
 use trace::Reading;
 use trace::Refusal;
@@ -19,58 +18,61 @@ pub(crate) fn named(name: &[u8], n: u64) {
     io::print_decimal(STDOUT_FILENO, n);
 }
 
-// What each kind of answer says, after a colon.
-fn tell_refusal(r: Refusal) {
+// The number of a refused call.
+fn show_refusal(r: Refusal) {
     named(b": refused ", r.number());
 }
 
-pub(crate) fn tell_done(answer: Done) {
+// What a make, put, flip, mark or clear answers.
+pub(crate) fn show_done(answer: Done) {
     match answer {
         Done::Accepted => text(b": accepted"),
-        Done::Refused(r) => tell_refusal(r),
+        Done::Refused(r) => show_refusal(r),
     }
 }
 
-fn tell_values(v: Reading) {
-    named(b": step ", v.step);
-    named(b", reading ", v.reading);
-    named(b", wrong ", v.wrong);
-    named(b", marks ", v.marks);
+// The values of a read.
+fn show_reading(reading: Reading) {
+    let v = reading.values();
+    named(b": step ", v[0]);
+    named(b", reading ", v[1]);
+    named(b", wrong ", v[2]);
+    named(b", marks ", v[3]);
 }
 
-pub(crate) fn tell_read(answer: ReadAnswer) {
+// What a read answers.
+pub(crate) fn show_read(answer: ReadAnswer) {
     match answer {
-        ReadAnswer::Mended(v) => tell_values(v),
-        ReadAnswer::Refused(r) => tell_refusal(r),
+        ReadAnswer::Corrected(v) => show_reading(v),
+        ReadAnswer::Refused(r) => show_refusal(r),
     }
 }
 
-fn tell_pressures(p: Pressures) {
-    match p {
-        Pressures::Absent => text(b", no pressures"),
-        Pressures::Present(smallest, largest, mean) => {
-            named(b", smallest ", smallest);
-            named(b", largest ", largest);
-            named(b", mean ", mean);
-        }
+// The values of a survey: six, or nine where smallest, largest and mean are present.
+fn show_values(survey: Survey) {
+    let answered = survey.values();
+    let count = answered.count;
+    let v = answered.values;
+    named(b": blank ", v[0]);
+    named(b", read ", v[1]);
+    named(b", over ", v[2]);
+    named(b", lost ", v[3]);
+    named(b", bad ", v[4]);
+    named(b", sum ", v[5]);
+    if count < 9 {
+        text(b", no pressures");
+        return;
     }
+    named(b", smallest ", v[6]);
+    named(b", largest ", v[7]);
+    named(b", mean ", v[8]);
 }
 
-fn tell_counts(s: Survey) {
-    named(b": blank ", s.blank);
-    named(b", read ", s.read);
-    named(b", over ", s.over);
-    named(b", lost ", s.lost);
-    named(b", bad ", s.bad);
-    named(b", sum ", s.sum);
-    let p = s.pressures;
-    tell_pressures(p);
-}
-
-pub(crate) fn tell_survey(answer: SurveyAnswer) {
+// What a survey answers.
+pub(crate) fn show_survey(answer: SurveyAnswer) {
     match answer {
-        SurveyAnswer::Counts(s) => tell_counts(s),
-        SurveyAnswer::Refused(r) => tell_refusal(r),
+        SurveyAnswer::Surveyed(s) => show_values(s),
+        SurveyAnswer::Refused(r) => show_refusal(r),
     }
 }
 

@@ -1,5 +1,4 @@
 -- `codes_tests::back` is safe: no more messages are counted than were passed.
--- Assumes nothing.
 use Prim.Native.Nat.{_-_, _≤_}
 use native.Mathlib.Omega.{arith}
 use borrow.Author.Needs.{needs}

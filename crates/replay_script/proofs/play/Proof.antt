@@ -1,5 +1,4 @@
 -- `replay_script::play` is safe, ends, and lends no more than the buffer has.
--- Assumes nothing.
 use mathlib.Core.Path.{sym}
 use native.Mathlib.Omega.{arith}
 use lib.Seq.{length-take-le}
@@ -23,7 +22,9 @@ same-length : tie.Need-same-length
 same-length c = search needs
 
 returns : tie.Need-returns
-returns c = rw (c .before .before .before .n .given .1) at (c .before .before .before .before .before .before .before .lend .ensures .1)
+returns c =
+    let lent = c .before .before .before .before .before .before .before .lend in
+    rw (c .before .before .before .n .given .1) at (lent .ensures .1)
 
 enum-told : tie.Need-enum-told
 enum-told c = search needs

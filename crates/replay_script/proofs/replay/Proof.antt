@@ -1,5 +1,4 @@
--- `replay_script::replay` is safe and ends. At the loop's head the lent bytes lie in the buffer; each turn goes past a line.
--- Assumes nothing.
+-- `replay_script::replay` is safe and ends. At the loop's head the lent bytes lie in the buffer; each round goes past a line.
 use mathlib.Core.Path.{_≡_}
 use Prim.Native.Nat.{_-_, _≤_}
 use native.Mathlib.Omega.{arith}

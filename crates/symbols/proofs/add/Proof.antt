@@ -1,5 +1,4 @@
 -- `symbols::add` meets its contract: an exclusive or modulo 4 is one of the two remainders, and the sixteen pairs are tested.
--- Assumes nothing.
 use mathlib.Core.Path.{_∙_}
 use lib.Bits.{bitXor, xor-mod}
 use Rattle.symbols.specs.Symbol.{add}

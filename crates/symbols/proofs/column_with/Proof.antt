@@ -1,13 +1,12 @@
 -- `symbols::column_with` meets its contract: the table of columns is tested at its sixteen entries.
--- Assumes nothing.
-use mathlib.Core.Path.{_≡_, ap, ap₂, _∙_}
+use mathlib.Core.Path.{_≡_, _∙_}
 use mathlib.Core.Bool.{Bool}
 use Prim.Native.Nat.{ℕ, _+_, _*_, _/_, _%_, _^_}
 use native.Mathlib.Nat.{mod-lt}
 use native.Mathlib.Omega.{arith}
 use borrow.Author.Needs.{needs}
 use lib.Dec.{T, lit<}
-use Rattle.symbols.specs.Symbol.{Symbol, symbolOf}
+use Rattle.symbols.specs.Symbol.{symbolOf}
 use Rattle.symbols.specs.Column.{one, columnNumber, columnWith}
 use Rattle.symbols.proofs.Every.{bits, _⊗_, below, passes, law-below, number-discrete}
 use Rattle.symbols.proofs.Columns.{one-le}
@@ -27,7 +26,7 @@ entry-right : (w : ℕ) → T ((bits ⊗ bits) .all (λ (p, t). right w p t)) �
 entry-right w h p v t =
     law-below 4 number-discrete (λ v. entry w (one p) v (one t)) (λ v. columnNumber (columnWith p (symbolOf v) t))
     ((bits ⊗ bits) .at (λ (p, t). right w p t) h (p, t)) (v % 4) (mod-lt v (lit< tt))
-    ∙ ap (λ (s : Symbol). columnNumber (columnWith p s t)) (symbol-mod v)
+    ∙ rw (symbol-mod v)
 
 one-requires : tie.Need-one-requires
 one-requires c κs = search needs
@@ -62,8 +61,8 @@ cast-result-2 c = search needs
 returns : tie.Need-returns
 unfolding columnWith
 returns c =
-    ap₂ (λ (p t : ℕ). entry _ p (c .before .before .args .value % 4) t) (c .before .one .ensures) (c .one2 .ensures)
-    ∙ entry-right _ tt (c .before .before .args .parity) (c .before .before .args .value) (c .before .before .args .top)
+    rw (c .before .one .ensures, c .one2 .ensures)
+    (entry-right _ tt (c .before .before .args .parity) (c .before .before .args .value) (c .before .before .args .top))
 
 pub column-with-spec : {M : Type 1} → statement M
 column-with-spec =

@@ -1,5 +1,4 @@
 -- `symbols::multiply` meets its contract: the table of products is tested at its sixteen entries.
--- Assumes nothing.
 use Prim.Native.Nat.{_+_, _*_, _/_, _%_, _^_}
 use borrow.Author.Needs.{needs}
 use Rattle.symbols.specs.Symbol.{mul}

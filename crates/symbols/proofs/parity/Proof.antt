@@ -1,5 +1,4 @@
 -- `symbols::parity` meets its contract: the table of parities is tested at its sixteen entries.
--- Assumes nothing.
 use mathlib.Core.Bool.{Bool-discrete}
 use Prim.Native.Nat.{_/_, _%_, _^_}
 use borrow.Author.Needs.{needs}

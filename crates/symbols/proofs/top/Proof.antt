@@ -1,5 +1,4 @@
 -- `symbols::top` meets its contract: the comparison is tested at the sixteen columns.
--- Assumes nothing.
 use mathlib.Core.Bool.{Bool-discrete}
 use lib.Dec.{leb}
 use Rattle.symbols.specs.Column.{top}

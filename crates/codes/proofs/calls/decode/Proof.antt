@@ -1,8 +1,6 @@
 -- `codes::decode` meets its contract: the code that its number stands for, or the refusal.
--- Assumes nothing.
-use mathlib.Core.Path.{sym, _∙_}
 use borrow.Author.Needs.{needs}
-use Rattle.codes.specs.Codes.{reading}
+use Rattle.codes.specs.Codes.{decoding}
 use Rattle.codes.proofs.Answers.{under-unknown, under-known}
 use Rattle.codes.proofs.calls.decode.Statement.{statement}
 use Rattle.codes.proofs.calls.decode.Tie as tie
@@ -19,8 +17,7 @@ enum-told c = search needs
 returns : tie.Need-returns
 returns c =
     let a = c .before .before .before .args in
-    sym (under-unknown (a .code) (λ π. reading π (a .word)) (c .enum-told .given .0 .0)
-    (sym (c .before .before .from-number .ensures) ∙ c .enum-told .given .1))
+    under-unknown (a .code) (λ π. decoding π (a .word)) (c .before .before .from-number .ensures) (c .enum-told .given .1)
 
 decode-requires : tie.Need-decode-requires
 decode-requires c κs = search needs
@@ -28,9 +25,7 @@ decode-requires c κs = search needs
 returns-2 : tie.Need-returns-2
 returns-2 c =
     let a = c .before .before .before .before .before .args in
-    c .decode .ensures
-    ∙ sym (under-known (a .code) (λ π. reading π (a .word)) (c .before .before .c .given .0 .0)
-    (sym (c .before .before .before .before .from-number .ensures) ∙ c .before .before .c .given .1))
+    under-known (a .code) (λ π. decoding π (a .word)) (c .before .before .before .before .from-number .ensures) (c .before .before .c .given .1) (c .decode .ensures)
 
 pub decode-spec : {M : Type 1} → statement M
 decode-spec =

@@ -1,8 +1,6 @@
 -- `codes::encode` meets its contract: the code that its number stands for, or the refusal.
--- Assumes nothing.
-use mathlib.Core.Path.{sym, _∙_}
 use borrow.Author.Needs.{needs}
-use Rattle.codes.specs.Codes.{writing}
+use Rattle.codes.specs.Codes.{encoding}
 use Rattle.codes.proofs.Answers.{under-unknown, under-known}
 use Rattle.codes.proofs.calls.encode.Statement.{statement}
 use Rattle.codes.proofs.calls.encode.Tie as tie
@@ -19,8 +17,7 @@ enum-told c = search needs
 returns : tie.Need-returns
 returns c =
     let a = c .before .before .before .args in
-    sym (under-unknown (a .code) (λ π. writing π (a .message)) (c .enum-told .given .0 .0)
-    (sym (c .before .before .from-number .ensures) ∙ c .enum-told .given .1))
+    under-unknown (a .code) (λ π. encoding π (a .message)) (c .before .before .from-number .ensures) (c .enum-told .given .1)
 
 encode-requires : tie.Need-encode-requires
 encode-requires c κs = search needs
@@ -28,9 +25,7 @@ encode-requires c κs = search needs
 returns-2 : tie.Need-returns-2
 returns-2 c =
     let a = c .before .before .before .before .before .args in
-    c .encode .ensures
-    ∙ sym (under-known (a .code) (λ π. writing π (a .message)) (c .before .before .c .given .0 .0)
-    (sym (c .before .before .before .before .from-number .ensures) ∙ c .before .before .c .given .1))
+    under-known (a .code) (λ π. encoding π (a .message)) (c .before .before .before .before .from-number .ensures) (c .before .before .c .given .1) (c .encode .ensures)
 
 pub encode-spec : {M : Type 1} → statement M
 encode-spec =

@@ -1,5 +1,4 @@
 -- `codes::message::codeword` meets its contract: the draft without the other values has the syndrome that these must have.
--- Assumes nothing.
 use mathlib.Core.Path.{ap, _∙_}
 use borrow.Author.Needs.{needs}
 use Rattle.codes.specs.Word.{syndromeOf}

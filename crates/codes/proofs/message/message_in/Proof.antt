@@ -1,8 +1,7 @@
 -- `codes::message::message_in` meets its contract: the number so far, followed by the top bits that are left, is the whole.
--- Assumes nothing.
-use mathlib.Core.Path.{_≡_, sym, ap, ap₂, _∙_}
+use mathlib.Core.Path.{_≡_, sym, _∙_}
 use mathlib.Core.List.{map}
-use Prim.Native.Nat.{ℕ, suc, _+_, _-_, _*_, _^_, _≤_, _<_}
+use Prim.Native.Nat.{suc, _-_, _^_, _≤_, _<_}
 use native.Mathlib.Nat.{lt-of-lt-of-le}
 use native.Mathlib.Omega.{arith}
 use native.Mathlib.Numerals.{add-one}
@@ -15,7 +14,7 @@ use Rattle.codes.specs.Digits.{bits}
 use Rattle.codes.specs.Projection.{size, topBits}
 use Rattle.codes.specs.Message.{butLast, messageIn, messageNumber}
 use Rattle.codes.specs.Codes.{projection}
-use Rattle.codes.specs.Walk.{held}
+use Rattle.codes.specs.ContractsOfWalk.{held}
 use Rattle.codes.proofs.Digits.{bits-fit}
 use Rattle.codes.proofs.Horner.{followed, followed-none, followed-le}
 use Rattle.codes.proofs.Codes.{size-le, bits-le, systematic}
@@ -34,6 +33,10 @@ Inv-loop code columns number₀ i₀ number i =
 abbrev μ-loop : tie.MeasureT-loop
 μ-loop code columns number₀ i₀ number i = topBits (projection code) - i
 
+-- the function's entry, from the loop's head
+abbrev entry : tie.At-loop Inv-loop μ-loop → tie.Start Inv-loop μ-loop
+entry l = l .before .before
+
 high-part-requires : tie.Need-high-part-requires Inv-loop μ-loop
 high-part-requires c κs = search needs
 
@@ -42,21 +45,20 @@ loop-holds c =
     let code = c .before .args .code in
     let a = c .before .args .t2 in (
       omega arith,
-      ap (λ (n : ℕ). followed bits n (butLast (map top (held (projection code) a)))) (c .high-part .ensures)
-          ∙ read-tops (projection code) (systematic code) a (omega (arith, size-le code)),
+      rw (c .high-part .ensures) (read-tops (projection code) (systematic code) a (omega (arith, size-le code))),
     )
 
 -- the number so far is below 2 ^ 22
 small : (c : tie.At-loop Inv-loop μ-loop) → c .loop .number < 2 ^ 22
 small c =
-    let code = c .before .before .args .code in
-    let a = c .before .before .args .t2 in
+    let code = entry c .args .code in
+    let a = entry c .args .t2 in
     let whole : messageNumber (projection code) (messageIn (projection code) (held (projection code) a)) < 2 ^ 22 =
     lt-of-lt-of-le (message-bounded (projection code) (systematic code) a (omega (arith, size-le code))) (pow-mono (bits-le code)) in
     omega (arith, c .loop .inv .1, followed-le bits bits-fit (c .loop .number) (drop (c .loop .i) (butLast (map top (held (projection code) a)))))
 
 add-if1 : tie.Need-add-if1 Inv-loop μ-loop
-add-if1 c = omega (arith, size-le (c .before .before .args .code))
+add-if1 c = omega (arith, size-le (entry c .args .code))
 
 columns-requires : tie.Need-columns-requires Inv-loop μ-loop
 columns-requires c κs = search needs
@@ -65,7 +67,7 @@ mul-number : tie.Need-mul-number Inv-loop μ-loop
 mul-number c = omega (arith, small (c .before .before))
 
 array-read-top : tie.Need-array-read-top Inv-loop μ-loop
-array-read-top c = omega (arith, c .before .columns .ensures, size-le (c .before .before .before .before .args .code))
+array-read-top c = omega (arith, c .before .columns .ensures, size-le (entry (c .before .before) .args .code))
 
 top-requires : tie.Need-top-requires Inv-loop μ-loop
 top-requires c κs = search needs
@@ -80,36 +82,35 @@ add-number : tie.Need-add-number Inv-loop μ-loop
 add-number c = omega (arith, small (c .before .before .before .before), c .one .ensures, one-le (c .before .top .result))
 
 add-i : tie.Need-add-i Inv-loop μ-loop
-add-i c = omega (arith, size-le (c .before .before .before .before .before .before .args .code))
+add-i c = omega (arith, size-le (entry (c .before .before .before .before) .args .code))
 
 loop-less : tie.Need-loop-less Inv-loop μ-loop
 loop-less c = omega (arith, c .before .before .before .columns .ensures)
 
 loop-again : tie.Need-loop-again Inv-loop μ-loop
 loop-again c =
-    let code = c .before .before .before .before .before .before .args .code in
+    let head = c .before .before .before .before in
+    let code = entry head .args .code in
     let π = projection code in
-    let a = c .before .before .before .before .before .before .args .t2 in
-    let l = c .before .before .before .before .loop in
+    let a = entry head .args .t2 in
+    let l = head .loop in
     let below : suc (l .i) < size π = omega (arith, c .before .before .before .columns .ensures) in (
       omega arith,
-      ap₂ (λ (b j : ℕ). followed bits (l .number * 2 + b) (drop j (butLast (map top (held π a)))))
-          (c .one .ensures ∙ ap one (c .before .top .ensures)) (add-one (l .i))
-          ∙ sym (read-top π (systematic code) a (omega (arith, size-le code)) (l .i) (l .number) below) ∙ l .inv .1,
+      rw (c .one .ensures, c .before .top .ensures, add-one (l .i))
+          (sym (read-top π (systematic code) a (omega (arith, size-le code)) (l .i) (l .number) below) ∙ l .inv .1),
     )
 
 returns : tie.Need-returns Inv-loop μ-loop
 returns c =
-    let code = c .before .before .before .before .args .code in
+    let head = c .before .before in
+    let code = entry head .args .code in
     let π = projection code in
-    let a = c .before .before .before .before .args .t2 in
-    let l = c .before .before .loop in
+    let a = entry head .args .t2 in
+    let l = head .loop in
     let tops = butLast (map top (held π a)) in
     let size-of : length tops ≡ size π - 1 =
-    length-but-last (map top (held π a)) ∙ ap (λ (n : ℕ). n - 1) (length-map (held π a) top ∙ length-held π a (omega (arith, size-le code))) in
-    sym (followed-none bits (l .number))
-    ∙ ap (followed bits (l .number)) (sym (drop-of-length-le tops {i = l .i} (omega (arith, c .before .columns .ensures))))
-    ∙ l .inv .1
+    omega (arith, length-but-last (map top (held π a)), length-map (held π a) top, length-held π a (omega (arith, size-le code))) in
+    sym (followed-none bits (l .number)) ∙ (rw (drop-of-length-le tops {i = l .i} (omega (arith, c .before .columns .ensures))) at (l .inv .1))
 
 pub message-in-spec : {M : Type 1} → statement M
 message-in-spec =

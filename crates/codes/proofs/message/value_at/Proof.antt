@@ -1,14 +1,12 @@
 -- `codes::message::value_at` meets its contract: the digit of the message or of the syndrome that has as many digits behind it as there
 -- are columns of its kind behind the column.
--- Assumes nothing.
-use mathlib.Core.Path.{_≡_, sym, ap, ap₂, _∙_}
+use mathlib.Core.Path.{_≡_, sym, _∙_}
 use mathlib.Core.Bool.{not}
 use mathlib.Core.List.{map}
-use Prim.Native.Nat.{ℕ, suc, _+_, _-_, _*_, _/_, _^_}
+use Prim.Native.Nat.{suc, _+_, _-_, _*_, _/_, _^_}
 use native.Mathlib.Omega.{arith}
 use borrow.Author.Needs.{needs}
 use lib.ListN.{drop}
-use Rattle.symbols.specs.Symbol.{symbolOf}
 use Rattle.symbols.proofs.Numbers.{symbol-mod}
 use Rattle.codes.specs.Projection.{size, count, topBits}
 use Rattle.codes.specs.Codes.{projection}
@@ -23,8 +21,7 @@ parted : (s : tie.Start) →
     count (drop (suc (s .args .column)) (projection (s .args .code) .free)) + count (map not (drop (suc (s .args .column)) (projection (s .args .code) .free)))
     ≡ size (projection (s .args .code)) - suc (s .args .column)
 parted s =
-    count-behind (projection (s .args .code) .free) (s .args .column)
-    ∙ ap (λ (n : ℕ). n - suc (s .args .column)) (systematic (s .args .code) .flags)
+    rw (systematic (s .args .code) .flags) at (count-behind (projection (s .args .code) .free) (s .args .column))
 
 columns-requires : tie.Need-columns-requires
 columns-requires c κs = search needs
@@ -61,12 +58,11 @@ returns c =
     let π = projection (a .code) in
     let columns = c .before .before .before .columns in
     let free = c .before .before .free-behind in
-    let last : columns .result - 1 ≡ topBits π = ap (λ (n : ℕ). n - 1) (columns .ensures) in
+    let last : columns .result - 1 ≡ topBits π = omega (arith, columns .ensures) in
     symbol-mod (a .message / 2 ^ (columns .result - 1 + 2 * free .result))
-    ∙ ap₂ (λ (k f : ℕ). symbolOf (a .message / 2 ^ (k + 2 * f))) last (free .ensures)
-    ∙ ap symbolOf (sym (shift-shift (a .message) (topBits π) (count (drop (suc (a .column)) (π .free)))))
-    ∙ sym (value-from (π .free) (a .column) (omega (arith, s .pre, systematic (a .code) .flags)) (a .message / 2 ^ topBits π) (a .syndrome)
-    (sym (c .before .is-free .ensures) ∙ c .if1 .taken))
+    ∙ rw (last, free .ensures, ← shift-shift (a .message) (topBits π) (count (drop (suc (a .column)) (π .free))))
+    (sym (value-from (π .free) (a .column) (omega (arith, s .pre, systematic (a .code) .flags)) (a .message / 2 ^ topBits π) (a .syndrome)
+    (sym (c .before .is-free .ensures) ∙ c .if1 .taken)))
 
 sub-others : tie.Need-sub-others
 sub-others c = search needs
@@ -93,10 +89,9 @@ returns-2 c =
     let others : columns .result - 1 - a .column - free .result ≡ count (map not (drop (suc (a .column)) (π .free))) =
     omega (arith, parted s, free .ensures, columns .ensures) in
     symbol-mod (a .syndrome / 2 ^ (2 * (columns .result - 1 - a .column - free .result)))
-    ∙ ap (λ (k : ℕ). symbolOf (a .syndrome / 2 ^ (2 * k))) others
-    ∙ ap (λ (x : ℕ). symbolOf (a .syndrome / x)) (sym (pow-mul 2 2 (count (map not (drop (suc (a .column)) (π .free))))))
-    ∙ sym (value-from (π .free) (a .column) (omega (arith, s .pre, systematic (a .code) .flags)) (a .message / 2 ^ topBits π) (a .syndrome)
-    (sym (c .before .is-free .ensures) ∙ c .if1 .left))
+    ∙ rw (others, ← pow-mul 2 2 (count (map not (drop (suc (a .column)) (π .free)))))
+    (sym (value-from (π .free) (a .column) (omega (arith, s .pre, systematic (a .code) .flags)) (a .message / 2 ^ topBits π) (a .syndrome)
+    (sym (c .before .is-free .ensures) ∙ c .if1 .left)))
 
 pub value-at-spec : {M : Type 1} → statement M
 value-at-spec =

@@ -1,11 +1,6 @@
 -- `codes::message::with_value` meets its contract: by whether the column is free; a value is below 4, so the number has room for it.
--- Assumes nothing.
-use mathlib.Core.Path.{sym, ap, _∙_}
-use mathlib.Core.Bool.{Bool, cond}
-use Prim.Native.Nat.{ℕ, _+_, _*_}
 use native.Mathlib.Omega.{arith}
 use borrow.Author.Needs.{needs}
-use Rattle.symbols.specs.Symbol.{symbolNumber}
 use Rattle.symbols.specs.Column.{value, columnOf}
 use Rattle.symbols.proofs.Numbers.{symbol-number-lt}
 use Rattle.codes.proofs.message.with_value.Statement.{statement}
@@ -24,15 +19,10 @@ add-result : tie.Need-add-result
 add-result c = omega (arith, c .value .ensures, symbol-number-lt (value (columnOf (c .before .before .args .column))))
 
 returns : tie.Need-returns
-returns c =
-    let a = c .before .before .args in
-    ap (λ (v : ℕ). a .number * 4 + v) (c .value .ensures)
-    ∙ ap (λ (b : Bool). cond b (a .number * 4 + symbolNumber (value (columnOf (a .column)))) (a .number)) (sym (c .before .if1 .taken))
+returns c = rw (c .value .ensures, c .before .if1 .taken)
 
 returns-2 : tie.Need-returns-2
-returns-2 c =
-    let a = c .before .args in
-    ap (λ (b : Bool). cond b (a .number * 4 + symbolNumber (value (columnOf (a .column)))) (a .number)) (sym (c .if1 .left))
+returns-2 c = rw (c .if1 .left)
 
 pub with-value-spec : {M : Type 1} → statement M
 with-value-spec = tie.close (tie.spec mul-result value-requires cast-result add-result returns returns-2)

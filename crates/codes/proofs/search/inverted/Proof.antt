@@ -1,7 +1,6 @@
 -- `codes::search::inverted` meets its contract: the shifted bits stay below 2 ^ 64.
--- Assumes nothing.
 use mathlib.Core.Path.{ap, _∙_}
-use Prim.Native.Nat.{ℕ, _-_, _*_, _^_}
+use Prim.Native.Nat.{_-_, _*_}
 use native.Mathlib.Omega.{arith}
 use borrow.Author.Needs.{needs}
 use lib.Bits.{bitXor}
@@ -31,7 +30,7 @@ returns c =
     let after = c .columns .result - 1 - a .column in
     ap (bitXor (a .x))
     (shl-exact 4 (4 * after) 64 (c .before .pre .1) (omega (arith, size-le (a .code)))
-    ∙ ap (λ (m : ℕ). a .bits * 2 ^ (4 * (m - 1 - a .column))) (c .columns .ensures))
+    ∙ rw (c .columns .ensures))
 
 pub inverted-spec : {M : Type 1} → statement M
 inverted-spec =

@@ -1,7 +1,5 @@
 -- `codes::search::of_parity` meets its contract: the search begins with all columns ahead, unless too many lack the parity.
--- Assumes nothing.
 use mathlib.Core.Path.{ap, _∙_}
-use mathlib.Core.Bool.{Bool}
 use native.Mathlib.Omega.{arith}
 use borrow.Author.Needs.{needs}
 use Rattle.symbols.specs.Symbol.{_⊻_}
@@ -27,7 +25,7 @@ seek-requires c κs =
     let wanted = c .before .before .top-parity in (
       s .pre .0,
       seek-start (s .pre .1) (omega arith) (c .columns .result) (c .columns .ensures) _
-          (unequal-xor top (wanted .result) ∙ ap (λ (b : Bool). top ⊻ b) (wanted .ensures)),
+          (unequal-xor top (wanted .result) ∙ ap (_⊻_ top) (wanted .ensures)),
     )
 
 returns-2 : tie.Need-returns-2

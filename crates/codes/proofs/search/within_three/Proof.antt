@@ -1,14 +1,12 @@
--- `codes::search::within_three` meets its contract: a codeword is even or odd, and the number of odd columns tells how many lack each parity.
--- Assumes nothing.
-use mathlib.Core.Path.{ap, _∙_}
+-- `codes::search::within_three` meets its contract: a codeword is even or odd, and the number of odd columns says how many lack each parity.
 use mathlib.Core.Bool.{false}
-use Prim.Native.Nat.{ℕ, _-_}
 use native.Mathlib.Omega.{arith}
 use borrow.Author.Needs.{needs}
 use Rattle.codes.specs.Codes.{projection}
+use Rattle.codes.specs.ContractsOfSearch.{Begun}
 use Rattle.codes.proofs.Codes.{size-le}
 use Rattle.codes.proofs.Searches.{sought-one}
-use Rattle.codes.proofs.Seeking.{odd-lacks, within-any, sought-either}
+use Rattle.codes.proofs.Seeking.{begun-even, odd-le, begun-odd, within-any, sought-either}
 use Rattle.codes.proofs.search.within_three.Statement.{statement}
 use Rattle.codes.proofs.search.within_three.Tie as tie
 
@@ -18,13 +16,14 @@ unpack-requires c κs = search needs
 walk-columns-requires : tie.Need-walk-columns-requires
 walk-columns-requires c κs = search needs
 
+-- past the walk a search for an even codeword can begin
+begun : (w : tie.After-walk-columns) →
+    Begun (projection (w .before .before .args .code)) false (w .before .unpack .result) (w .walk-columns .result .odd)
+    (w .walk-columns .result .syndrome) (w .walk-columns .result .top) (w .walk-columns .result .odd) (w .before .before .args .x)
+begun w = begun-even (w .before .before .pre .1) (w .before .unpack .ensures) (w .walk-columns .ensures)
+
 of-parity-requires : tie.Need-of-parity-requires
-of-parity-requires c κs =
-    let s = c .before .before .before in
-    let unpack = c .before .before .unpack in
-    let walk = c .before .walk-columns in
-    let lacking = odd-lacks (projection (s .args .code)) (unpack .result) (s .args .x) (walk .result .odd) (unpack .ensures) (walk .ensures .odd) in
-    (s .pre .0, record { fits = s .pre .1; same = unpack .ensures; walked = walk .ensures; lacking = lacking .0 })
+of-parity-requires c κs = (c .before .before .pre .0, begun c)
 
 returns : tie.Need-returns
 returns c = sought-one (c .before .of-parity .result) (within-any false (c .before .of-parity .ensures .found (c .if1 .taken))) (c .if1 .taken)
@@ -33,27 +32,18 @@ columns-requires : tie.Need-columns-requires
 columns-requires c κs = search needs
 
 cast-left : tie.Need-cast-left
-cast-left c = omega (arith, size-le (c .before .before .before .before .before .before .args .code), c .columns2 .ensures)
+cast-left c = omega (arith, size-le (c .before .before .before .before .before .args .code), c .columns .ensures)
 
 sub-left : tie.Need-sub-left
-sub-left c =
-    let s = c .before .before .before .before .before .before in
-    let unpack = c .before .before .before .before .before .unpack in
-    let walk = c .before .before .before .before .walk-columns in
-    let lacking = odd-lacks (projection (s .args .code)) (unpack .result) (s .args .x) (walk .result .odd) (unpack .ensures) (walk .ensures .odd) in
-    omega (arith, lacking .1, c .columns2 .ensures)
+sub-left c = omega (arith, odd-le (begun (c .before .before .before)), c .columns .ensures)
 
 of-parity-requires-2 : tie.Need-of-parity-requires-2
 of-parity-requires-2 c κs =
-    let s = c .before .before .before .before .before .before .before in
-    let unpack = c .before .before .before .before .before .before .unpack in
-    let walk = c .before .before .before .before .before .walk-columns in
-    let lacking = odd-lacks (projection (s .args .code)) (unpack .result) (s .args .x) (walk .result .odd) (unpack .ensures) (walk .ensures .odd) in
-    let left = ap (λ (m : ℕ). m - walk .result .odd) (c .before .columns2 .ensures) ∙ lacking .2 in
-    (s .pre .0, record { fits = s .pre .1; same = unpack .ensures; walked = walk .ensures; lacking = left })
+    let w = c .before .before .before in
+    (w .before .before .pre .0, begun-odd (begun w) (omega (arith, c .columns .ensures)))
 
 returns-2 : tie.Need-returns-2
-returns-2 c = sought-either (c .before .before .before .before .of-parity .ensures .none (c .before .before .before .if1 .left)) (c .of-parity2 .ensures)
+returns-2 c = sought-either (c .before .before .before .of-parity .ensures .none (c .before .before .if1 .left)) (c .of-parity2 .ensures)
 
 pub within-three-spec : {M : Type 1} → statement M
 within-three-spec =

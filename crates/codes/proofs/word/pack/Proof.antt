@@ -1,7 +1,6 @@
 -- `codes::word::pack` meets its contract: the number so far, followed by the columns that are left, is the whole.
--- Assumes nothing.
 use mathlib.Core.Path.{_≡_, sym, ap, _∙_}
-use Prim.Native.Nat.{ℕ, suc, _+_, _-_, _*_, _%_, _^_, _≤_, _<_}
+use Prim.Native.Nat.{suc, _-_, _^_, _≤_, _<_}
 use native.Mathlib.Omega.{arith}
 use native.Mathlib.Numerals.{add-one}
 use borrow.Author.Needs.{needs}
@@ -11,7 +10,7 @@ use Rattle.codes.specs.Digits.{columns}
 use Rattle.codes.specs.Projection.{size}
 use Rattle.codes.specs.Word.{wordNumber}
 use Rattle.codes.specs.Codes.{projection}
-use Rattle.codes.specs.Walk.{held}
+use Rattle.codes.specs.ContractsOfWalk.{held}
 use Rattle.codes.proofs.Digits.{columns-fit}
 use Rattle.codes.proofs.Horner.{followed, followed-next, followed-none, followed-le}
 use Rattle.codes.proofs.Codes.{size-le}
@@ -72,11 +71,8 @@ loop-again c =
     let column = columnOf (getD a (l .i) 0) in
     let rest = drop (suc (l .i)) (held (projection code) a) in (
       omega arith,
-      ap (λ (j : ℕ). followed columns (l .number * 16 + getD a (l .i) 0 % 16) (drop j (held (projection code) a))) (add-one (l .i))
-          ∙ ap (λ (x : ℕ). followed columns (l .number * 16 + x) rest) (sym (columns-fit .there (getD a (l .i) 0)))
-          ∙ sym (followed-next columns (l .number) column rest)
-          ∙ ap (followed columns (l .number)) (sym (held-from (projection code) a (omega (arith, size-le code)) (l .i) below))
-          ∙ l .inv .1,
+      rw (add-one (l .i), ← columns-fit .there (getD a (l .i) 0), ← followed-next columns (l .number) column rest)
+          (rw (held-from (projection code) a (omega (arith, size-le code)) (l .i) below) at (l .inv .1)),
     )
 
 returns : tie.Need-returns Inv-loop μ-loop

@@ -1,10 +1,5 @@
 -- `codes::word::scaled_at` meets its contract: the table has four entries for each column, in the order of the symbols.
--- Assumes nothing.
-use mathlib.Core.Path.{ap, _∙_}
-use mathlib.Core.List.{List}
-use Prim.Native.Nat.{ℕ, _+_, _*_}
 use native.Mathlib.Omega.{arith}
-use lib.ListN.{getD}
 use Rattle.codes.specs.Codes.{projection}
 use Rattle.codes.proofs.Codes.{size-le}
 use Rattle.codes.proofs.Arrays.{scaled-at}
@@ -23,8 +18,7 @@ element-copy-out-result c = omega (arith, size-le (c .args .code))
 returns : tie.Need-returns
 returns c =
     let a = c .before .args in
-    ap (λ (l : List ℕ). getD l (4 * a .column + a .symbol) 0) (c .before .pre .0)
-    ∙ scaled-at (projection (a .code)) (size-le (a .code)) (a .column) (a .symbol) (c .before .pre .1) (c .before .pre .2)
+    rw (c .before .pre .0) (scaled-at (projection (a .code)) (size-le (a .code)) (a .column) (a .symbol) (c .before .pre .1) (c .before .pre .2))
 
 pub scaled-at-spec : {M : Type 1} → statement M
 scaled-at-spec = tie.close (tie.spec mul-result add-result element-copy-out-result returns)

@@ -1,9 +1,8 @@
 -- `codes::word::scaled_columns` meets its contract: each table is the one that is computed from its matrix.
--- Assumes nothing.
 use mathlib.Core.Path.{_≡_, refl}
 use Rattle.codes.specs.declared.code.Code.the-variants.{O36, O40}
 use Rattle.codes.specs.Codes.{projection}
-use Rattle.codes.specs.Walk.{scaledColumns}
+use Rattle.codes.specs.ContractsOfWalk.{scaledColumns}
 use Rattle.codes.proofs.Codes.{of-tags}
 use Rattle.codes.proofs.word.scaled_columns.Statement.{statement}
 use Rattle.codes.proofs.word.scaled_columns.Tie as tie

@@ -1,13 +1,12 @@
 -- `codes::word::unpack` meets its contract. With k columns stored, they are the lowest k digits of the word, and what is left is the
 -- word divided by 16 to the power k.
--- Assumes nothing.
-use mathlib.Core.Path.{_≡_, refl, sym, ap, ap₂, _∙_}
+use mathlib.Core.Path.{_≡_, refl, sym}
 use mathlib.Core.List.{map}
-use Prim.Native.Nat.{ℕ, suc, _-_, _/_, _%_, _^_, _≤_}
+use Prim.Native.Nat.{suc, _-_, _/_, _^_, _≤_}
 use native.Mathlib.Nat.{div-one}
 use native.Mathlib.Omega.{arith}
 use borrow.Author.Needs.{needs}
-use lib.ListN.{length, take, drop, set, replicate, length-set}
+use lib.ListN.{length, take, drop, length-set}
 use Rattle.symbols.specs.Column.{columnOf}
 use Rattle.codes.specs.Digits.{columns, digits}
 use Rattle.codes.specs.Projection.{size}
@@ -35,8 +34,8 @@ loop-holds c =
       omega arith,
       omega (arith, c .columns .ensures, size-le (c .before .args .code)),
       refl,
-      sym (ap (λ (k : ℕ). c .before .args .packed / 16 ^ k) none ∙ div-one (c .before .args .packed)),
-      ap (λ (k : ℕ). map columnOf (take k (drop m (replicate 10 0)))) none ∙ sym (ap (λ (k : ℕ). digits columns k (c .before .args .packed)) none),
+      rw none (sym (div-one (c .before .args .packed))),
+      rw none,
     )
 
 sub-i : tie.Need-sub-i Inv-loop μ-loop
@@ -62,20 +61,17 @@ loop-again c =
       omega arith,
       omega arith,
       simp length-set (l .inv .2),
-      ap (λ (x : ℕ). x / 16) (l .inv .3) ∙ next-quotient k n ∙ ap (λ (j : ℕ). n / 16 ^ j) (sym more),
-      ap₂ (λ (j v : ℕ). map columnOf (take j (drop (l .i - 1) (set (l .columns) (l .i - 1) (v % 16))))) more (l .inv .3)
-          ∙ unpack-step (l .columns) (l .i - 1) k n (omega arith) (ap (λ (j : ℕ). map columnOf (take k (drop j (l .columns)))) next ∙ l .inv .4)
-          ∙ ap (λ (j : ℕ). digits columns j n) (sym more),
+      rw (l .inv .3, more) (next-quotient k n),
+      rw (l .inv .3, more) (unpack-step (l .columns) (l .i - 1) k n (omega arith) (rw next (l .inv .4))),
     )
 
 returns : tie.Need-returns Inv-loop μ-loop
 returns c =
     let l = c .before .loop in
-    let n = c .before .before .before .args .packed in
     let m = size (projection (c .before .before .before .args .code)) in
     let whole : c .before .before .columns .result - l .i ≡ m = omega (arith, c .before .before .columns .ensures) in
     let first : l .i ≡ 0 = omega arith in
-    ap₂ (λ (j k : ℕ). map columnOf (take j (drop k (l .columns)))) (sym whole) (sym first) ∙ l .inv .4 ∙ ap (λ (k : ℕ). digits columns k n) whole
+    rw (whole, first) at (l .inv .4)
 
 pub unpack-spec : {M : Type 1} → statement M
 unpack-spec =

@@ -1,24 +1,20 @@
 -- `codes::word::walk_columns` meets its contract. At the loop's head everything is collected of the columns from i on, and the odd ones
 -- among them and the i columns ahead are at most ten, so that their number fits a byte.
--- Assumes nothing.
-use mathlib.Core.Path.{_≡_, sym, ap, _∙_, subst, subst₂}
-use mathlib.Core.Bool.{Bool, false, not, Bool·beq}
-use mathlib.Core.List.{List, []}
+use mathlib.Core.Path.{_≡_, ap, _∙_}
+use mathlib.Core.Bool.{Bool}
+use mathlib.Core.List.{List}
 use Prim.Native.Nat.{ℕ, suc, _+_, _-_, _≤_}
 use native.Mathlib.Omega.{arith}
 use borrow.Author.Needs.{needs}
-use lib.Bits.{bitXor}
 use lib.ListN.{getD, drop}
-use Rattle.symbols.specs.Symbol.{Symbol, symbolOf}
+use Rattle.symbols.specs.Symbol.{symbolOf}
 use Rattle.symbols.specs.Column.{value, parity, one, columnOf}
 use Rattle.symbols.proofs.Columns.{one-le}
 use Rattle.symbols.proofs.Numbers.{symbol-of-number, symbol-number-lt}
 use Rattle.codes.specs.declared.code.Code.{Code}
-use Rattle.codes.specs.Digits.{symbols, numberOf}
-use Rattle.codes.specs.Vector.{scale}
 use Rattle.codes.specs.Projection.{size}
 use Rattle.codes.specs.Codes.{projection}
-use Rattle.codes.specs.Walk.{held, Walked}
+use Rattle.codes.specs.ContractsOfWalk.{held, Walked}
 use Rattle.codes.proofs.Codes.{size-le, systematic}
 use Rattle.codes.proofs.Walks.{walk-start, walk-step}
 use Rattle.codes.proofs.word.walk_columns.Statement.{statement}
@@ -35,6 +31,10 @@ Inv-loop code scaled columns syndrome₀ top₀ odd₀ i₀ syndrome top odd i =
 abbrev μ-loop : tie.MeasureT-loop
 μ-loop code scaled columns syndrome₀ top₀ odd₀ i₀ syndrome top odd i = i
 
+-- the loop's head, from the end of a round
+abbrev head : tie.After-one Inv-loop μ-loop → tie.At-loop Inv-loop μ-loop
+head c = c .before .before .before .before .before .before
+
 columns-requires : tie.Need-columns-requires Inv-loop μ-loop
 columns-requires c κs = search needs
 
@@ -43,8 +43,7 @@ loop-holds c =
     let code = c .before .args .code in
     let full = c .columns .ensures in (
       omega arith,
-      subst (From code (c .before .args .t3) 0 false 0) (sym full)
-          (walk-start (projection code) (c .before .args .t3) (omega (arith, size-le code))),
+      rw full (walk-start (projection code) (c .before .args .t3) (omega (arith, size-le code))),
       omega (arith, size-le code),
     )
 
@@ -72,30 +71,27 @@ one-requires : tie.Need-one-requires Inv-loop μ-loop
 one-requires c κs = search needs
 
 add-odd : tie.Need-add-odd Inv-loop μ-loop
-add-odd c =
-    omega (arith, c .one .ensures, one-le (c .before .parity .result), c .before .before .before .before .before .before .loop .inv .2)
+add-odd c = omega (arith, c .one .ensures, one-le (c .before .parity .result), head c .loop .inv .2)
 
 loop-less : tie.Need-loop-less Inv-loop μ-loop
 loop-less c = omega arith
 
 loop-again : tie.Need-loop-again Inv-loop μ-loop
 loop-again c =
-    let start = c .before .before .before .before .before .before .before .before in
-    let l = c .before .before .before .before .before .before .loop in
+    let start = head c .before .before in
+    let l = head c .loop in
     let code = start .args .code in
     let a = start .args .t3 in
+    let scaled = c .before .before .before .scaled-at in
+    let valued = c .before .before .before .before .value in
     let column = columnOf (getD a (l .i - 1) 0) in
     let next : suc (l .i - 1) ≡ l .i = omega arith in
-    let symbol : symbolOf (c .before .before .before .before .value .result) ≡ value column =
-    ap symbolOf (c .before .before .before .before .value .ensures) ∙ symbol-of-number (value column) in
-    let here = walk-step (projection code) a (omega (arith, size-le code)) (systematic code .shape) (l .i - 1) (omega arith) (l .syndrome) (l .top) (l .odd)
-    (c .before .before .before .scaled-at .result)
-    (c .before .before .before .scaled-at .ensures ∙ ap (λ (v : Symbol). numberOf symbols (scale v (getD (projection code .matrix) (l .i - 1) []))) symbol)
-    (subst (From code a (l .syndrome) (l .top) (l .odd)) (sym next) (l .inv .1)) in (
+    let symbol : symbolOf (valued .result) ≡ value column = ap symbolOf (valued .ensures) ∙ symbol-of-number (value column) in
+    let here =
+    walk-step (projection code) a (omega (arith, size-le code)) (systematic code .shape) (l .i - 1) (omega arith) (l .syndrome) (l .top) (l .odd)
+    (scaled .result) (rw (symbol) at (scaled .ensures)) (rw next (l .inv .1)) in (
       omega arith,
-      subst₂ (λ (t : Bool) (n : ℕ).
-          From code a (bitXor (l .syndrome) (c .before .before .before .scaled-at .result)) (not (Bool·beq (l .top) t)) (l .odd + n) (l .i - 1))
-          (sym (c .before .before .top .ensures)) (sym (c .one .ensures ∙ ap one (c .before .parity .ensures))) here,
+      rw (c .before .before .top .ensures, c .one .ensures, c .before .parity .ensures) here,
       omega (arith, c .one .ensures, one-le (c .before .parity .result)),
     )
 
@@ -104,7 +100,7 @@ returns c =
     let code = c .before .before .before .args .code in
     let l = c .before .loop in
     let first : l .i ≡ 0 = omega arith in
-    subst (From code (c .before .before .before .args .t3) (l .syndrome) (l .top) (l .odd)) first (l .inv .1)
+    rw (first) at (l .inv .1)
 
 pub walk-columns-spec : {M : Type 1} → statement M
 walk-columns-spec =

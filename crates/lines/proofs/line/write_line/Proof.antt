@@ -1,5 +1,4 @@
 -- `lines::line::write_line` meets its contract: text, numbers and a newline stand one after the other.
--- Assumes nothing.
 use mathlib.Core.Path.{_∙_}
 use mathlib.Core.List.{[], _∷_, append-assoc}
 use native.Mathlib.Omega.{arith}
@@ -24,17 +23,19 @@ add-result : tie.Need-add-result
 add-result c = search needs
 
 same-length : tie.Need-same-length
-same-length c = simp length-set (c .before .before .write-numbers .kept .0 ∙ c .before .before .before .before .before .before .write-text .kept .0)
+same-length c =
+    let n = c .before .before in
+    simp length-set (n .write-numbers .kept .0 ∙ n .before .before .before .before .write-text .kept .0)
 
 returns : tie.Need-returns
 unfolding line
 returns c =
-    let t = c .before .before .before .before .before .before .write-text in
-    let n = c .before .before .write-numbers in
-    let a = c .before .before .before .before .before .before .before .before .before .before .before .args in (
+    let n = c .before .before in
+    let t = n .before .before .before .before in
+    let a = t .before .before .before .before .before .args in (
       written-as
           (append-assoc (a .text .now) (spaced (a .numbers .now)) (10 ∷ []))
-          (written-byte 10 (written-then (t .ensures) (n .ensures .0)) (slice-write-out c)),
+          (written-byte 10 (written-then (t .write-text .ensures) (n .write-numbers .ensures .0)) (slice-write-out c)),
       omega arith,
     )
 

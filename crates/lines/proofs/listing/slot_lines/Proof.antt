@@ -1,12 +1,12 @@
 -- `lines::listing::slot_lines` meets its contract. At the loop's head the lines of the slots before this one are written.
--- Assumes nothing.
-use mathlib.Core.Path.{_≡_, refl, ap, _∙_}
+use mathlib.Core.Path.{_≡_, refl, _∙_}
 use Prim.Native.Nat.{_-_, _*_, _≤_}
 use native.Mathlib.Omega.{arith}
 use native.Mathlib.Numerals.{add-one}
 use lib.ListN.{length}
-use Rattle.lines.specs.Text.{Written}
-use Rattle.lines.specs.Listing.{slotLines, answerIn}
+use Rattle.lines.specs.ContractsOfSteps.{Written}
+use Rattle.trace.specs.Trace.{aloneIn}
+use Rattle.lines.specs.Listing.{slotLines}
 use Rattle.lines.proofs.Texts.{written-none, written-then, written-as}
 use borrow.Author.Needs.{needs}
 use Rattle.lines.proofs.listing.slot_lines.Statement.{statement}
@@ -14,7 +14,7 @@ use Rattle.lines.proofs.listing.slot_lines.Tie as tie
 
 abbrev Inv-loop : tie.InvT-loop
 Inv-loop file slots out₀ end₀ slot₀ out end slot =
-    (slot ≤ slots) × (end ≤ 110 * slot) × (length out ≡ length out₀) × Written out₀ 0 (slotLines (answerIn file) slot) out end
+    (slot ≤ slots) × (end ≤ 110 * slot) × (length out ≡ length out₀) × Written out₀ 0 (slotLines (aloneIn file) slot) out end
 
 abbrev μ-loop : tie.MeasureT-loop
 μ-loop file slots out₀ end₀ slot₀ out end slot = slots - slot
@@ -23,8 +23,8 @@ loop-holds : tie.Need-loop-holds Inv-loop μ-loop
 unfolding slotLines
 loop-holds c = (omega arith, omega arith, refl, written-none (c .before .before .args .out .now) 0)
 
-read-requires : tie.Need-read-requires Inv-loop μ-loop
-read-requires c κs = search needs
+read-alone-requires : tie.Need-read-alone-requires Inv-loop μ-loop
+read-alone-requires c κs = search needs
 
 slot-line-requires : tie.Need-slot-line-requires Inv-loop μ-loop
 slot-line-requires c κs = omega arith
@@ -40,11 +40,11 @@ unfolding slotLines
 loop-again c =
     let l = c .before .before .before .before .before .before .loop in
     let w = c .before .before .slot-line in
-    let read = c .before .before .before .read .ensures in (
+    let read = c .before .before .before .read-alone .ensures in (
       omega arith,
       omega (arith, w .ensures .1),
       w .kept .0 ∙ l .inv .2,
-      rw (add-one, ← ap (λ r. r .answer) read) (written-then (l .inv .3) (w .ensures .0)),
+      rw (add-one, ← read) (written-then (l .inv .3) (w .ensures .0)),
     )
 
 same-length : tie.Need-same-length Inv-loop μ-loop
@@ -54,7 +54,7 @@ returns : tie.Need-returns Inv-loop μ-loop
 returns c =
     let l = c .before .loop in
     let all : l .slot ≡ c .before .before .before .before .args .slots = omega arith in
-    (written-as (ap (slotLines (answerIn (c .before .before .before .before .args .file .now))) all) (l .inv .3), omega arith)
+    (written-as (rw all) (l .inv .3), omega arith)
 
 pub slot-lines-spec : {M : Type 1} → statement M
 slot-lines-spec =
@@ -63,7 +63,7 @@ slot-lines-spec =
     Inv-loop
     μ-loop
     loop-holds
-    read-requires
+    read-alone-requires
     slot-line-requires
     add-slot
     loop-less

@@ -1,8 +1,6 @@
 -- `lines::text::write_decimal` meets its contract. The measure is the number; a number below ten is its own digit, any other has the digits of
 -- its tenth and then its last one.
--- Assumes nothing.
 use mathlib.Core.Path.{_≡_, sym, ap, _∙_}
-use mathlib.Core.List.{[], _∷_, _++_}
 use Prim.Native.Nat.{ℕ, _+_, _/_, _<_, _≤_}
 use native.Mathlib.Omega.{arith}
 use lib.ListN.{length, length-append, length-set}
@@ -87,7 +85,7 @@ write-decimal-returns t c =
     let a = c .before .before .before .args in
     let one = decimal-one (a .n) (c .before .if1 .taken) in
     written-as
-    (ap (λ (d : ℕ). d ∷ []) (c .digit .ensures) ∙ sym one)
+    (rw (c .digit .ensures) (sym one))
     (written-byte (c .digit .result) (written-none (a .out .now) (a .at)) (omega (arith, c .before .before .before .pre .1, ap length one)))
 
 write-decimal-write-decimal-requires : (t : ℕ) → write-decimal-lts.Need-write-decimal-requires (
@@ -148,7 +146,7 @@ write-decimal-returns-2 t c =
     let n = c .before .before .before .before .before .before .before .args .n in
     let ten = c .before .before .before .before .before .if1 .left in
     written-as
-    (ap (λ (d : ℕ). decimal (n / 10) ++ (d ∷ [])) (c .digit2 .ensures) ∙ sym (decimal-more n ten))
+    (rw (c .digit2 .ensures) (sym (decimal-more n ten)))
     (written-byte (c .digit2 .result) (c .before .before .before .write-decimal .ensures) (write-decimal-slice-write-out-2 t c))
 
 pub +write-decimal-spec : {M : Type 1} → statement M

@@ -1,11 +1,11 @@
 -- `lines::text::write_numbers` meets its contract. At the loop's head the first i numbers are written, in at most 21 bytes each.
--- Assumes nothing.
-use mathlib.Core.Path.{_≡_, refl, sym, ap, _∙_}
-use Prim.Native.Nat.{ℕ, _+_, _-_, _*_, _≤_}
+use mathlib.Core.Path.{_≡_, refl, sym, _∙_}
+use Prim.Native.Nat.{_+_, _-_, _*_, _≤_}
 use native.Mathlib.Omega.{arith}
 use lib.ListN.{length, take, getD, length-set}
 use lib.Seq.{take-length}
-use Rattle.lines.specs.Text.{spaced, Written}
+use Rattle.lines.specs.Text.{spaced}
+use Rattle.lines.specs.ContractsOfSteps.{Written}
 use Rattle.lines.proofs.Decimals.{decimal-short}
 use Rattle.lines.proofs.Texts.{written-none, written-then, written-byte, written-as, take-more}
 use Rattle.lines.proofs.Lines.{spaced-more}
@@ -38,9 +38,9 @@ shared-slice-read-write-decimal c = omega arith
 
 write-decimal-requires : tie.Need-write-decimal-requires Inv-loop μ-loop
 write-decimal-requires c κs =
-    let l = c .before .before .before .loop in
-    let start = c .before .before .before .before .before .before in
-    let short = decimal-short (getD (start .args .numbers .now) (l .i) 0) (c .shared-slice-known2 .given (l .i) .fits) in
+    let l = c .before .before .before in
+    let start = l .before .before .before in
+    let short = decimal-short (getD (start .args .numbers .now) (l .loop .i) 0) (c .shared-slice-known2 .given (l .loop .i) .fits) in
     simp length-set (omega (arith, start .pre))
 
 add-i : tie.Need-add-i Inv-loop μ-loop
@@ -51,15 +51,16 @@ loop-less c = omega arith
 
 loop-again : tie.Need-loop-again Inv-loop μ-loop
 loop-again c =
-    let l = c .before .before .before .before .before .before .loop in
     let w = c .before .before .write-decimal in
-    let numbers = c .before .before .before .before .before .before .before .before .before .args .numbers .now in
+    let head = c .before .before .before .before .before .before in
+    let l = head .loop in
+    let numbers = head .before .before .before .args .numbers .now in
     let short = decimal-short (getD numbers (l .i) 0) (c .before .before .before .shared-slice-known2 .given (l .i) .fits) in (
       omega arith,
       omega (arith, w .ensures .ends),
       w .kept .0 ∙ simp length-set (l .inv .2),
       written-as
-          (sym (ap spaced (take-more numbers (l .i) (omega arith)) ∙ spaced-more (take (l .i) numbers) (getD numbers (l .i) 0)))
+          (sym (rw (take-more numbers (l .i) (omega arith)) (spaced-more (take (l .i) numbers) (getD numbers (l .i) 0))))
           (written-then (written-byte 32 (l .inv .3) (omega arith)) (w .ensures)),
     )
 
@@ -71,7 +72,7 @@ returns c =
     let l = c .before .loop in
     let numbers = c .before .before .before .before .args .numbers .now in
     let all : l .i ≡ length numbers = omega arith in
-    (written-as (ap (λ (k : ℕ). spaced (take k numbers)) all ∙ ap spaced (take-length numbers)) (l .inv .3), omega arith)
+    (written-as (rw (all, take-length numbers)) (l .inv .3), omega arith)
 
 pub write-numbers-spec : {M : Type 1} → statement M
 write-numbers-spec =

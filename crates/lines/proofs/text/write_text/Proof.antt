@@ -1,11 +1,10 @@
 -- `lines::text::write_text` meets its contract. At the loop's head the first i bytes of the text are written.
--- Assumes nothing.
-use mathlib.Core.Path.{_≡_, refl, sym, ap, _∙_}
-use Prim.Native.Nat.{ℕ, _+_, _-_, _≤_}
+use mathlib.Core.Path.{_≡_, refl, sym}
+use Prim.Native.Nat.{_+_, _-_, _≤_}
 use native.Mathlib.Omega.{arith}
 use lib.ListN.{length, take, length-set}
 use lib.Seq.{take-length}
-use Rattle.lines.specs.Text.{Written}
+use Rattle.lines.specs.ContractsOfSteps.{Written}
 use Rattle.lines.proofs.Texts.{written-none, written-byte, written-as, take-more}
 use Rattle.lines.proofs.text.write_text.Statement.{statement}
 use Rattle.lines.proofs.text.write_text.Tie as tie
@@ -53,7 +52,7 @@ returns c =
     let l = c .before .loop in
     let text = c .before .before .args .text .now in
     let all : l .i ≡ length text = omega arith in
-    written-as (ap (λ (k : ℕ). take k text) all ∙ take-length text) (l .inv .3)
+    written-as (rw all (take-length text)) (l .inv .3)
 
 pub write-text-spec : {M : Type 1} → statement M
 write-text-spec =

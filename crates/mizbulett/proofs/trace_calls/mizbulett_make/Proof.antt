@@ -1,6 +1,4 @@
 -- `mizbulett::trace_calls::mizbulett_make` meets its contract: the number of what `trace::make` answers, and the bytes that it leaves.
--- Assumes nothing.
-use Rattle.mizbulett.proofs.Returning.{leaves-done}
 use borrow.Author.Needs.{needs}
 use Rattle.mizbulett.proofs.trace_calls.mizbulett_make.Statement.{statement}
 use Rattle.mizbulett.proofs.trace_calls.mizbulett_make.Tie as tie
@@ -15,9 +13,7 @@ same-length : tie.Need-same-length
 same-length c = search needs
 
 returns : tie.Need-returns
-returns c =
-    let d = c .before .before .before .make in
-    leaves-done (d .result) (c .number .ensures) (d .ensures)
+returns c = rw (c .number .ensures, ← c .before .before .before .make .ensures)
 
 pub mizbulett-make-spec : {M : Type 1} → statement M
 mizbulett-make-spec = tie.close (tie.spec make-requires number-requires same-length returns)

@@ -1,6 +1,4 @@
 -- `mizbulett::trace_calls::mizbulett_mark` meets its contract: the number of what `trace::mark` answers, and the bytes that it leaves.
--- Assumes nothing.
-use Rattle.mizbulett.proofs.Returning.{leaves-done}
 use borrow.Author.Needs.{needs}
 use Rattle.mizbulett.proofs.trace_calls.mizbulett_mark.Statement.{statement}
 use Rattle.mizbulett.proofs.trace_calls.mizbulett_mark.Tie as tie
@@ -15,9 +13,7 @@ same-length : tie.Need-same-length
 same-length c = search needs
 
 returns : tie.Need-returns
-returns c =
-    let d = c .before .before .before .mark in
-    leaves-done (d .result) (c .number .ensures) (d .ensures)
+returns c = rw (c .number .ensures, ← c .before .before .before .mark .ensures)
 
 pub mizbulett-mark-spec : {M : Type 1} → statement M
 mizbulett-mark-spec = tie.close (tie.spec mark-requires number-requires same-length returns)

@@ -1,6 +1,4 @@
 -- `mizbulett::trace_calls::mizbulett_put` meets its contract: the number of what `trace::put` answers, and the bytes that it leaves.
--- Assumes nothing.
-use Rattle.mizbulett.proofs.Returning.{leaves-done}
 use borrow.Author.Needs.{needs}
 use Rattle.mizbulett.proofs.trace_calls.mizbulett_put.Statement.{statement}
 use Rattle.mizbulett.proofs.trace_calls.mizbulett_put.Tie as tie
@@ -15,9 +13,7 @@ same-length : tie.Need-same-length
 same-length c = search needs
 
 returns : tie.Need-returns
-returns c =
-    let d = c .before .before .before .put in
-    leaves-done (d .result) (c .number .ensures) (d .ensures)
+returns c = rw (c .number .ensures, ← c .before .before .before .put .ensures)
 
 pub mizbulett-put-spec : {M : Type 1} → statement M
 mizbulett-put-spec = tie.close (tie.spec put-requires number-requires same-length returns)

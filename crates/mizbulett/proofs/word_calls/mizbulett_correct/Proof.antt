@@ -1,6 +1,4 @@
 -- `mizbulett::word_calls::mizbulett_correct` meets its contract: the refusal's number, or the four values.
--- Assumes nothing.
-use Rattle.mizbulett.proofs.Returning.{returns-refused, returns-values}
 use borrow.Author.Needs.{needs}
 use Rattle.mizbulett.proofs.word_calls.mizbulett_correct.Statement.{statement}
 use Rattle.mizbulett.proofs.word_calls.mizbulett_correct.Tie as tie
@@ -18,10 +16,10 @@ enum-known-c : tie.Need-enum-known-c
 enum-known-c c = search needs
 
 returns : tie.Need-returns
-returns c = returns-refused (c .number .ensures) (rw (c .before .before .r .given .1) at (c .before .before .before .before .correct .ensures))
+returns c = rw (c .number .ensures, ← c .before .before .before .before .correct .ensures, c .before .before .r .given .1)
 
 returns-2 : tie.Need-returns-2
-returns-2 c = returns-values _ (rw (c .before .before .c .given .1) at (c .before .before .before .before .correct .ensures))
+returns-2 c = rw (← c .before .before .before .before .correct .ensures, c .before .before .c .given .1)
 
 pub mizbulett-correct-spec : {M : Type 1} → statement M
 mizbulett-correct-spec =

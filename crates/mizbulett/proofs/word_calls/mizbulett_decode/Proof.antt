@@ -1,6 +1,4 @@
 -- `mizbulett::word_calls::mizbulett_decode` meets its contract: the refusal's number, or the message.
--- Assumes nothing.
-use Rattle.mizbulett.proofs.Returning.{returns-refused, returns-values}
 use borrow.Author.Needs.{needs}
 use Rattle.mizbulett.proofs.word_calls.mizbulett_decode.Statement.{statement}
 use Rattle.mizbulett.proofs.word_calls.mizbulett_decode.Tie as tie
@@ -18,10 +16,10 @@ enum-known-message : tie.Need-enum-known-message
 enum-known-message c = search needs
 
 returns : tie.Need-returns
-returns c = returns-refused (c .number .ensures) (rw (c .before .before .r .given .1) at (c .before .before .before .before .decode .ensures))
+returns c = rw (c .number .ensures, ← c .before .before .before .before .decode .ensures, c .before .before .r .given .1)
 
 returns-2 : tie.Need-returns-2
-returns-2 c = returns-values _ (rw (c .before .before .message .given .1) at (c .before .before .before .before .decode .ensures))
+returns-2 c = rw (← c .before .before .before .before .decode .ensures, c .before .before .message .given .1)
 
 pub mizbulett-decode-spec : {M : Type 1} → statement M
 mizbulett-decode-spec =

@@ -1,6 +1,4 @@
 -- `mizbulett::word_calls::mizbulett_encode` meets its contract: the refusal's number, or the codeword.
--- Assumes nothing.
-use Rattle.mizbulett.proofs.Returning.{returns-refused, returns-values}
 use borrow.Author.Needs.{needs}
 use Rattle.mizbulett.proofs.word_calls.mizbulett_encode.Statement.{statement}
 use Rattle.mizbulett.proofs.word_calls.mizbulett_encode.Tie as tie
@@ -18,10 +16,10 @@ enum-known-word : tie.Need-enum-known-word
 enum-known-word c = search needs
 
 returns : tie.Need-returns
-returns c = returns-refused (c .number .ensures) (rw (c .before .before .r .given .1) at (c .before .before .before .before .encode .ensures))
+returns c = rw (c .number .ensures, ← c .before .before .before .before .encode .ensures, c .before .before .r .given .1)
 
 returns-2 : tie.Need-returns-2
-returns-2 c = returns-values _ (rw (c .before .before .word .given .1) at (c .before .before .before .before .encode .ensures))
+returns-2 c = rw (← c .before .before .before .before .encode .ensures, c .before .before .word .given .1)
 
 pub mizbulett-encode-spec : {M : Type 1} → statement M
 mizbulett-encode-spec =

@@ -1,5 +1,4 @@
 -- `replay_script::answers::write_bytes` is safe and ends.
--- Assumes nothing.
 use mathlib.Core.Path.{_≡_}
 use Prim.Native.Nat.{_-_, _≤_}
 use lib.ListN.{length}

@@ -1,5 +1,4 @@
 -- `replay_script::lending::count` meets its contract: a word that is too long, or its number.
--- Assumes nothing.
 use borrow.Author.Tests.{le-leb, lt-leb}
 use borrow.Author.Needs.{needs}
 use Rattle.replay_script.specs.Lending.{countOf}

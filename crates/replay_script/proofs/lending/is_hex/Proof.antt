@@ -1,7 +1,6 @@
 -- `replay_script::lending::is_hex` meets its contract. At the loop's head the bytes before i are digits.
--- Assumes nothing.
-use mathlib.Core.Path.{_≡_, refl, ap, _∙_}
-use mathlib.Core.Bool.{false}
+use mathlib.Core.Path.{_≡_, refl, _∙_}
+use mathlib.Core.Bool.{true, false}
 use Prim.Native.Nat.{_-_, _≤_}
 use native.Mathlib.Omega.{arith}
 use lib.ListN.{length, drop, drop-of-length-le}
@@ -56,7 +55,7 @@ unfolding allHex
 returns-3 c =
     let word = c .before .before .before .before .args .word .now in
     let l = c .before .loop in
-    is-hex-even word _ (c .before .before .if1 .left) (l .inv .1 ∙ ap allHex (drop-of-length-le word {i = l .i} (c .loop-test .left)))
+    is-hex-even word true (c .before .before .if1 .left) (rw (l .inv .1, drop-of-length-le word {i = l .i} (c .loop-test .left)))
 
 pub is-hex-spec : {M : Type 1} → statement M
 is-hex-spec =

@@ -1,6 +1,5 @@
 -- `replay_script::lending::lend` meets its contract: a short line, another name, a number, pairs of digits, or neither.
--- Assumes nothing.
-use mathlib.Core.Path.{_≡_, sym, ap, _∙_}
+use mathlib.Core.Path.{_≡_, sym, _∙_}
 use mathlib.Core.List.{List}
 use mathlib.Core.Bool.{true}
 use Prim.Native.Nat.{ℕ, _-_}
@@ -10,13 +9,12 @@ use lib.Seq.{length-take-le, take-all}
 use borrow.Author.Tests.{not-true, not-false}
 use Rattle.script.specs.Script.{text, is}
 use Rattle.script.proofs.Naming.{is-same}
-use Rattle.replay_script.specs.Lending.{lendIn}
 use Rattle.replay_script.proofs.Lends.{lent-nothing, line-short, line-other, line-number, line-hex, line-unreadable}
 use borrow.Author.Needs.{needs}
 use Rattle.replay_script.proofs.lending.lend.Statement.{statement}
 use Rattle.replay_script.proofs.lending.lend.Tie as tie
 
--- past the test of the name: the function's entry, what the test told, and the word behind the name
+-- past the test of the name: the function's entry, what the test showed, and the word behind the name
 abbrev Named : Type 0
 Named = tie.Else2
 
@@ -81,7 +79,7 @@ returns-3 c =
     let a = entry test .args in
     let count = sym (counted .count .ensures) ∙ c .before .before .before .before .before .n .given .1 in
     let z = c .before .before .lend-zeros .ensures in
-    (z .0 ∙ ap (λ o. lendIn o (a .buffer .now)) (line-number (a .line .now) _ (named test) (word (a .line .now)) _ count), z .1)
+    (rw (← line-number (a .line .now) _ (named test) (word (a .line .now)) _ count) (z .0), z .1)
 
 enum-told : tie.Need-enum-told
 enum-told c = search needs
@@ -97,13 +95,14 @@ same-length-2 c = search needs
 
 returns-4 : tie.Need-returns-4
 returns-4 c =
-    let counted = c .before .before .before .before .before .before .before .before in
+    let tested = c .before .before .before .before in
+    let counted = tested .before .before .before .before in
     let test = counted .before .before in
     let a = entry test .args in
-    let count = sym (counted .count .ensures) ∙ c .before .before .before .before .before .before .enum-told .given .1 in
-    let hex = sym (c .before .before .before .before .before .is-hex .ensures) ∙ c .before .before .before .before .if3 .taken in
+    let count = sym (counted .count .ensures) ∙ tested .before .before .enum-told .given .1 in
+    let hex = sym (tested .before .is-hex .ensures) ∙ tested .if3 .taken in
     let z = c .before .before .lend-hex .ensures in
-    (z .0 ∙ ap (λ o. lendIn o (a .buffer .now)) (line-hex (a .line .now) _ (named test) (word (a .line .now)) count hex), z .1)
+    (rw (← line-hex (a .line .now) _ (named test) (word (a .line .now)) count hex) (z .0), z .1)
 
 returns-5 : tie.Need-returns-5
 returns-5 c =

@@ -1,5 +1,4 @@
 -- `replay_script::lending::lend_hex` meets its contract. At the loop's head the first i bytes are those of the word, and the others as they were.
--- Assumes nothing.
 use mathlib.Core.Path.{_≡_, refl}
 use Prim.Native.Nat.{_+_, _-_, _*_, _/_, _<_, _≤_}
 use native.Mathlib.Omega.{arith}

@@ -1,5 +1,4 @@
 -- `replay_script::lending::place` meets its contract: the digits in upper case, then those in lower case.
--- Assumes nothing.
 use borrow.Author.Needs.{needs}
 use Rattle.replay_script.proofs.Lends.{place-upper, place-lower}
 use Rattle.replay_script.proofs.lending.place.Statement.{statement}

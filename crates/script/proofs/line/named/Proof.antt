@@ -1,5 +1,4 @@
 -- `script::line::named` meets its contract, case by case.
--- Assumes nothing.
 use Rattle.script.specs.Script.{commandOf}
 use borrow.Author.Needs.{needs}
 use Rattle.script.proofs.line.named.Statement.{statement}

@@ -1,10 +1,7 @@
 -- `script::line::parse_line` meets its contract: the first word, and the numbers after it.
--- Assumes nothing.
-use mathlib.Core.Path.{sym, ap, _∙_}
+use mathlib.Core.Path.{sym}
 use native.Mathlib.Omega.{arith}
-use lib.ListN.{take}
 use lib.Seq.{length-take-le}
-use Rattle.script.specs.Script.{commandOf}
 use Rattle.script.proofs.Splitting.{meaning-first}
 use borrow.Author.Needs.{needs}
 use Rattle.script.proofs.line.parse_line.Statement.{statement}
@@ -28,9 +25,7 @@ returns : tie.Need-returns
 returns c =
     let line = c .before .before .before .before .before .args .line .now in
     let f = c .before .before .before .find in
-    c .named .ensures
-    ∙ ap (commandOf (take (f .result) line)) (c .before .before .parse-numbers .ensures)
-    ∙ meaning-first line (f .result) (omega (arith, f .ensures .0))
+    rw (c .named .ensures, c .before .before .parse-numbers .ensures) (meaning-first line (f .result) (omega (arith, f .ensures .0)))
 
 pub parse-line-spec : {M : Type 1} → statement M
 parse-line-spec =

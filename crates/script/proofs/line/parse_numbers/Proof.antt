@@ -1,12 +1,11 @@
 -- `script::line::parse_numbers` meets its contract. At the loop's head the words before `at` are read, and the rest are left.
--- Assumes nothing.
-use mathlib.Core.Path.{_≡_, refl, sym, ap, _∙_}
-use mathlib.Core.List.{List}
-use Prim.Native.Nat.{ℕ, _-_, _≤_}
+use mathlib.Core.Path.{_≡_, refl}
+use Prim.Native.Nat.{_-_, _≤_}
 use native.Mathlib.Omega.{arith}
 use lib.ListN.{length, drop, drop-of-length-le}
 use Rattle.script.specs.declared.line.Numbers.{Numbers}
-use Rattle.script.specs.Script.{andOn, numbersOn, rest}
+use Rattle.script.specs.Script.{numbersOn}
+use Rattle.script.specs.ContractsOfSteps.{rest}
 use Rattle.script.proofs.Splitting.{numbers-step, numbers-unreadable, and-nothing}
 use borrow.Author.Needs.{needs}
 use Rattle.script.proofs.line.parse_numbers.Statement.{statement}
@@ -54,36 +53,31 @@ returns c =
     let line = c .before .before .before .before .before .before .before .before .args .line .now in
     let l = c .before .before .before .before .before .before .loop in
     let end = c .before .before .before .before .find in
-    let none = sym (c .enum-told .given .1) ∙ c .before .before .parse-number .ensures in
-    numbers-unreadable (rest (drop (end .result) line))
-    ∙ ap (λ (a : Numbers). numbersOn a (rest (drop (end .result) line))) (and-nothing (l .all) ∙ ap (andOn (l .all)) none)
-    ∙ sym (numbers-step line (l .at) (end .result) (l .all) (omega arith) (end .ensures .0))
-    ∙ l .inv .1
+    let step = numbers-step line (l .at) (end .result) (l .all) (omega arith) (end .ensures .0) in
+    rw (← l .inv .1, step, ← c .before .before .parse-number .ensures, c .enum-told .given .1, and-nothing (l .all), numbers-unreadable)
 
 with-requires : tie.Need-with-requires Inv-loop μ-loop
 with-requires c κs = search needs
 
 loop-less : tie.Need-loop-less Inv-loop μ-loop
-loop-less c = omega (arith, c .before .before .before .before .before .before .find .ensures .1 (omega arith))
+loop-less c =
+    let end = c .before .before .before .before .before .before .find in
+    omega (arith, end .ensures .1 (omega arith))
 
 loop-again : tie.Need-loop-again Inv-loop μ-loop
 loop-again c =
     let line = c .before .before .before .before .before .before .before .before .before .before .args .line .now in
     let l = c .before .before .before .before .before .before .before .before .loop in
     let end = c .before .before .before .before .before .before .find in
-    let one = sym (c .before .before .n .given .1) ∙ c .before .before .before .before .parse-number .ensures in (
-      end .ensures .1 (omega arith) .1,
-      ap (λ (a : Numbers). numbersOn a (rest (drop (end .result) line))) (c .with .ensures ∙ ap (andOn (l .all)) one)
-          ∙ sym (numbers-step line (l .at) (end .result) (l .all) (omega arith) (end .ensures .0))
-          ∙ l .inv .1,
-    )
+    let step = numbers-step line (l .at) (end .result) (l .all) (omega arith) (end .ensures .0) in
+    (end .ensures .1 (omega arith) .1, cc step)
 
 returns-2 : tie.Need-returns-2 Inv-loop μ-loop
 unfolding numbersOn
 returns-2 c =
     let line = c .before .before .before .args .line .now in
     let l = c .before .loop in
-    ap (λ (m : List ℕ). numbersOn (l .all) (rest m)) (sym (drop-of-length-le line {i = l .at} (c .loop-test .left))) ∙ l .inv .1
+    rw (← l .inv .1, drop-of-length-le line {i = l .at} (c .loop-test .left))
 
 pub parse-numbers-spec : {M : Type 1} → statement M
 parse-numbers-spec =

@@ -1,5 +1,4 @@
--- `script::line::says` meets its contract: `same` tells whether two texts are equal.
--- Assumes nothing.
+-- `script::line::says` meets its contract: `same` says whether two texts are equal.
 use Rattle.script.proofs.Naming.{is-same}
 use borrow.Author.Needs.{needs}
 use Rattle.script.proofs.line.says.Statement.{statement}

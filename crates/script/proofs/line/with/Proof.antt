@@ -1,5 +1,4 @@
 -- `script::line::with` meets its contract, case by case.
--- Assumes nothing.
 use borrow.Author.Needs.{needs}
 use Rattle.script.proofs.line.with.Statement.{statement}
 use Rattle.script.proofs.line.with.Tie as tie

@@ -1,5 +1,4 @@
 -- `script::line::with_one` meets its contract: the calls with one number.
--- Assumes nothing.
 use Rattle.script.specs.Script.{commandOf}
 use borrow.Author.Needs.{needs}
 use Rattle.script.proofs.line.with_one.Statement.{statement}

@@ -1,5 +1,4 @@
 -- `script::line::with_two` meets its contract: the calls with two numbers.
--- Assumes nothing.
 use Rattle.script.specs.Script.{commandOf}
 use borrow.Author.Needs.{needs}
 use Rattle.script.proofs.line.with_two.Statement.{statement}

@@ -1,5 +1,4 @@
 -- `script::words::find` meets its contract. At the loop's head the byte was not met before i.
--- Assumes nothing.
 use mathlib.Core.Path.{_≡_, refl}
 use Prim.Native.Nat.{_+_, _-_, _≤_}
 use native.Mathlib.Omega.{arith}

@@ -1,8 +1,6 @@
 -- `script::words::parse_number` meets its contract. At the loop's head the digits before i are read, and the rest are left.
--- Assumes nothing.
-use mathlib.Core.Path.{_≡_, sym, ap, _∙_}
-use mathlib.Core.List.{List}
-use Prim.Native.Nat.{ℕ, _+_, _-_, _≤_}
+use mathlib.Core.Path.{_≡_}
+use Prim.Native.Nat.{_-_, _≤_}
 use native.Mathlib.Omega.{arith}
 use lib.ListN.{length, drop, drop-of-length-le}
 use Rattle.script.specs.declared.words.Number.{Number}
@@ -41,10 +39,7 @@ returns-2 c =
     let word = c .before .before .before .before .before .before .before .before .args .word .now in
     let l = c .before .before .before .before .before .loop in
     let d = c .before .before .with-digit in
-    digits-nothing (drop (l .i + 1) word)
-    ∙ ap (digitsOn (drop (l .i + 1) word)) (sym (c .enum-told .given .1) ∙ d .ensures)
-    ∙ sym (digits-step word (l .i) (l .n) (omega arith))
-    ∙ l .inv .1
+    rw (← l .inv .1, digits-step word (l .i) (l .n) (omega arith), ← d .ensures, c .enum-told .given .1, digits-nothing)
 
 add-i : tie.Need-add-i Inv-loop μ-loop
 add-i c = omega arith
@@ -56,18 +51,13 @@ loop-again : tie.Need-loop-again Inv-loop μ-loop
 loop-again c =
     let word = c .before .before .before .before .before .before .before .before .before .args .word .now in
     let l = c .before .before .before .before .before .before .loop in
-    let d = c .before .before .before .with-digit in (
-      omega arith,
-      ap (digitsOn (drop (l .i + 1) word)) (sym (c .before .more .given .1) ∙ d .ensures)
-          ∙ sym (digits-step word (l .i) (l .n) (omega arith))
-          ∙ l .inv .1,
-    )
+    (omega arith, cc (digits-step word (l .i) (l .n) (omega arith)))
 
 returns-3 : tie.Need-returns-3 Inv-loop μ-loop
 returns-3 c =
     let word = c .before .before .before .before .args .word .now in
     let l = c .before .loop in
-    ap (λ (w : List ℕ). digitsOn w (Number.Is (l .n))) (sym (drop-of-length-le word {i = l .i} (omega arith))) ∙ l .inv .1
+    rw (← l .inv .1, drop-of-length-le word {i = l .i} (omega arith))
 
 pub parse-number-spec : {M : Type 1} → statement M
 parse-number-spec =

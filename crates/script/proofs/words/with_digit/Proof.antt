@@ -1,5 +1,4 @@
 -- `script::words::with_digit` meets its contract: below, above, too large, or a digit more.
--- Assumes nothing.
 use native.Mathlib.Omega.{arith}
 use Rattle.script.proofs.Numerals.{digit-below, digit-above, digit-large, digit-is}
 use borrow.Author.Needs.{needs}

@@ -1,5 +1,4 @@
 -- `trace::bytes::fill` meets its contract: the bytes that are left to write, before those that stand, are the number's.
--- Assumes nothing.
 use Prim.Native.Nat.{_-_, _≤_}
 use mathlib.Core.Path.{_≡_, refl, sym, _∙_}
 use mathlib.Core.List.{_++_, append-nil}

@@ -1,5 +1,4 @@
 -- `trace::bytes::number` meets its contract: the number of the bytes so far, with those that are left, is the whole.
--- Assumes nothing.
 use Prim.Native.Nat.{_-_, _^_, _≤_, _<_}
 use mathlib.Core.Path.{_≡_, refl, sym, _∙_}
 use native.Mathlib.Omega.{arith}

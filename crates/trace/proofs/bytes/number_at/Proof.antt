@@ -1,11 +1,10 @@
 -- `trace::bytes::number_at` meets its contract: the number of a part.
--- Assumes nothing.
 use Prim.Native.Nat.{_+_, _-_}
 use mathlib.Core.Path.{_≡_, _∙_}
 use native.Mathlib.Omega.{arith}
 use denote.Ref.{now}
-use Rattle.trace.specs.Layout.{numberAt}
-use Rattle.trace.proofs.Overwriting.{length-part}
+use Rattle.trace.specs.Layout.{part}
+use Rattle.trace.proofs.Parts.{length-part}
 use borrow.Author.Needs.{needs}
 use Rattle.trace.proofs.bytes.number_at.Statement.{statement}
 use Rattle.trace.proofs.bytes.number_at.Tie as tie
@@ -26,7 +25,7 @@ number-requires : tie.Need-number-requires
 number-requires c κs = search needs
 
 returns : tie.Need-returns
-unfolding numberAt
+unfolding part
 returns c =
     let a = c .before .before .before .args in
     let size : a .at + a .size - a .at ≡ a .size = omega arith in

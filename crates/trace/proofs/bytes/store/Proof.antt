@@ -1,6 +1,5 @@
 -- `trace::bytes::store` meets its contract: a part is lent, filled and given back.
--- Assumes nothing.
-use Rattle.trace.proofs.Overwriting.{fill-part}
+use Rattle.trace.proofs.Parts.{fill-part}
 use borrow.Author.Needs.{needs}
 use Rattle.trace.proofs.bytes.store.Statement.{statement}
 use Rattle.trace.proofs.bytes.store.Tie as tie

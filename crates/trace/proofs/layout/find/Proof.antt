@@ -1,8 +1,7 @@
 -- `trace::layout::find` meets its contract: the buffer is opened, and the slot is one of its slots.
--- Assumes nothing.
 use native.Mathlib.Omega.{arith}
 use denote.Ref.{now}
-use Rattle.trace.proofs.Finds.{unopened, not-found, found}
+use Rattle.trace.proofs.Finding.{not-opened, not-found, found}
 use borrow.Author.Needs.{needs}
 use Rattle.trace.proofs.layout.find.Statement.{statement}
 use Rattle.trace.proofs.layout.find.Tie as tie
@@ -21,20 +20,20 @@ returns c =
     let o = rw (c .before .before .h .given .1) at (c .before .before .before .before .«open» .ensures) in
     not-found _ _ _ o (c .if1 .taken)
 
-place-from-requires : tie.Need-place-from-requires
-place-from-requires c κs =
+place-of-requires : tie.Need-place-of-requires
+place-of-requires c κs =
     let o = rw (c .before .before .h .given .1) at (c .before .before .before .before .«open» .ensures) in
     omega (arith, o .inside)
 
 returns-2 : tie.Need-returns-2
 returns-2 c =
     let a = c .before .before .before .before .before .args in
-    unopened (now (a .b)) (a .slot) _ (rw (c .before .r .given .1) at (c .before .before .before .«open» .ensures))
+    not-opened (now (a .b)) (a .slot) _ (rw (c .before .r .given .1) at (c .before .before .before .«open» .ensures))
 
 returns-3 : tie.Need-returns-3
 returns-3 c =
     let o = rw (c .before .before .before .h .given .1) at (c .before .before .before .before .before .«open» .ensures) in
-    found _ _ _ o (c .before .if1 .left) _ (c .place-from .ensures)
+    found _ _ _ o (c .before .if1 .left) _ (c .place-of .ensures)
 
 pub find-spec : {M : Type 1} → statement M
 find-spec =
@@ -44,6 +43,6 @@ find-spec =
     enum-known-r
     enum-known-h
     returns
-    place-from-requires
+    place-of-requires
     returns-2
     returns-3)

@@ -1,5 +1,4 @@
 -- `trace::layout::is_count` meets its contract: one test, and the other.
--- Assumes nothing.
 use mathlib.Core.Path.{sym}
 use borrow.Author.Tests.{le-leb, lt-leb}
 use Rattle.trace.proofs.layout.is_count.Statement.{statement}

@@ -1,14 +1,13 @@
--- `trace::layout::open` meets its contract: the trailer is read and judged.
--- Assumes nothing.
+-- `trace::layout::open` meets its contract: the trailer is read and tested.
 use borrow.Author.Tests.{lt-ltb}
 use denote.Ref.{now}
-use Rattle.trace.proofs.Finds.{opening}
+use Rattle.trace.proofs.Finding.{opening}
 use borrow.Author.Needs.{needs}
 use Rattle.trace.proofs.layout.open.Statement.{statement}
 use Rattle.trace.proofs.layout.open.Tie as tie
 
 returns : tie.Need-returns
-returns c = λ a. rw (lt-ltb _ _ (c .if1 .taken))
+returns c = rw (lt-ltb _ _ (c .if1 .taken))
 
 sub-t : tie.Need-sub-t
 sub-t c = search needs

@@ -1,5 +1,4 @@
 -- `codes::Code::columns` meets its contract: the two lengths, and both rules at each.
--- Assumes nothing.
 use mathlib.Core.Path.{_≡_, refl}
 use Rattle.codes.specs.Projection.{size}
 use Rattle.codes.specs.Codes.{projection}

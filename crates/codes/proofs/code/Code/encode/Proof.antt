@@ -1,16 +1,10 @@
 -- `codes::Code::encode` meets its contract: the one row of its refusals, and the codeword's columns as a number.
--- Assumes nothing.
-use mathlib.Core.Path.{sym, ap, _∙_, subst}
-use mathlib.Core.List.{[], _∷_}
-use Prim.Native.Nat.{ℕ, _^_, _≤_, _<_}
+use Prim.Native.Nat.{_^_}
 use borrow.Author.Needs.{needs}
 use borrow.Author.Tests.{le-leb, lt-leb}
-use Rattle.codes.specs.Answer.{accepted}
 use Rattle.codes.specs.Projection.{messageBits}
-use Rattle.codes.specs.Word.{wordNumber}
 use Rattle.codes.specs.Message.{encode}
 use Rattle.codes.specs.Codes.{projection}
-use Rattle.codes.proofs.Answers.{row-met, row-passed}
 use Rattle.codes.proofs.code.Code.encode.Statement.{statement}
 use Rattle.codes.proofs.code.Code.encode.Tie as tie
 
@@ -20,9 +14,7 @@ message-limit-requires c κs = search needs
 returns : tie.Need-returns
 returns c =
     let a = c .before .before .args in
-    let π = projection (a .self) in
-    sym (row-met 2 [] (accepted (encode π (a .message) ∷ []))
-    (le-leb (2 ^ messageBits π) (a .message) (subst (λ (n : ℕ). n ≤ a .message) (c .before .message-limit .ensures) (c .if1 .taken))))
+    rw (le-leb (2 ^ messageBits (projection (a .self))) (a .message) (rw (c .before .message-limit .ensures) at (c .if1 .taken)))
 
 codeword-requires : tie.Need-codeword-requires
 codeword-requires c κs = search needs
@@ -35,9 +27,8 @@ unfolding encode
 returns-2 c =
     let a = c .before .before .before .before .args in
     let π = projection (a .self) in
-    let fits = subst (λ (n : ℕ). a .message < n) (c .before .before .before .message-limit .ensures) (c .before .before .if1 .left) in
-    ap (λ (n : ℕ). accepted (n ∷ [])) (c .pack .ensures ∙ ap wordNumber (c .before .codeword .ensures))
-    ∙ sym (row-passed 2 [] (accepted (encode π (a .message) ∷ [])) (lt-leb (2 ^ messageBits π) (a .message) fits))
+    let fits = rw (c .before .before .before .message-limit .ensures) at (c .before .before .if1 .left) in
+    rw (c .pack .ensures, c .before .codeword .ensures, lt-leb (2 ^ messageBits π) (a .message) fits)
 
 pub encode-spec : {M : Type 1} → statement M
 encode-spec =

@@ -1,16 +1,13 @@
 -- `codes::Code::free_behind` meets its contract: each table counts the free columns behind each, and no code has more than ten.
--- Assumes nothing.
-use mathlib.Core.Path.{_≡_, sym, ap}
+use mathlib.Core.Path.{refl, sym, ap}
 use Prim.Native.Nat.{ℕ, suc}
 use native.Mathlib.Omega.{arith}
-use lib.ListN.{getD, drop, drop-of-length-le}
+use lib.ListN.{drop, drop-of-length-le}
 use borrow.Author.Needs.{needs}
 use Rattle.codes.specs.Projection.{count}
 use Rattle.codes.specs.declared.code.Code.{Code}
-use Rattle.codes.specs.declared.code.Code.the-variants.{O36, O40}
 use Rattle.codes.specs.Codes.{projection}
-use Rattle.codes.proofs.Arrays.{tabulated, table-at}
-use Rattle.codes.proofs.Codes.{of-tags, size-le, systematic}
+use Rattle.codes.proofs.Codes.{of-table, size-le, systematic}
 use Rattle.codes.proofs.code.Code.free_behind.Statement.{statement}
 use Rattle.codes.proofs.code.Code.free_behind.Tie as tie
 
@@ -36,15 +33,13 @@ array-read-result-2 c = search needs
 
 returns-2 : tie.Need-returns-2
 returns-2 c =
-    let n = c .before .before .args .column in
-    let e = table-at 10 (entry O36) 0 n (c .before .if1 .left) in
-    of-tags (λ k. getD (tabulated 10 0 (entry O36)) n 0 ≡ entry k n) 0 1 e e (c .before .before .args .self) (c .match .keys1)
+    let a = c .before .before .args in
+    of-table entry 0 0 1 (a .column) (c .before .if1 .left) refl (a .self) (c .match .keys1)
 
 returns-3 : tie.Need-returns-3
 returns-3 c =
-    let n = c .before .before .args .column in
-    let e = table-at 10 (entry O40) 0 n (c .before .if1 .left) in
-    of-tags (λ k. getD (tabulated 10 0 (entry O40)) n 0 ≡ entry k n) 2 3 e e (c .before .before .args .self) (c .match .keys2)
+    let a = c .before .before .args in
+    of-table entry 0 2 3 (a .column) (c .before .if1 .left) refl (a .self) (c .match .keys2)
 
 pub free-behind-spec : {M : Type 1} → statement M
 free-behind-spec = tie.close (tie.spec returns mul-result array-read-result mul-result-2 array-read-result-2 returns-2 returns-3)

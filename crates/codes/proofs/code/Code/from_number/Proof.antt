@@ -1,5 +1,4 @@
 -- `codes::Code::from_number` meets its contract: the numbers 1 to 4 one by one, and any other, which is no code's.
--- Assumes nothing.
 use mathlib.Core.Path.{_≡_, refl, sym, ap}
 use mathlib.Core.Bool.{Bool, true, false, _&&_}
 use Prim.Native.Nat.{ℕ}

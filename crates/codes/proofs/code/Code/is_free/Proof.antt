@@ -1,16 +1,13 @@
 -- `codes::Code::is_free` meets its contract: each table has the free columns of its codes, and no code has more than ten.
--- Assumes nothing.
-use mathlib.Core.Path.{_≡_, sym}
+use mathlib.Core.Path.{refl, sym}
 use mathlib.Core.Bool.{Bool, false}
 use Prim.Native.Nat.{ℕ}
 use native.Mathlib.Omega.{arith}
 use lib.ListN.{getD, List·getD-eq-default}
 use borrow.Author.Needs.{needs}
 use Rattle.codes.specs.declared.code.Code.{Code}
-use Rattle.codes.specs.declared.code.Code.the-variants.{O36, O40}
 use Rattle.codes.specs.Codes.{projection}
-use Rattle.codes.proofs.Arrays.{tabulated, table-at}
-use Rattle.codes.proofs.Codes.{of-tags, size-le, systematic}
+use Rattle.codes.proofs.Codes.{of-table, size-le, systematic}
 use Rattle.codes.proofs.code.Code.is_free.Statement.{statement}
 use Rattle.codes.proofs.code.Code.is_free.Tie as tie
 
@@ -30,15 +27,13 @@ array-read-result-2 c = search needs
 
 returns-2 : tie.Need-returns-2
 returns-2 c =
-    let n = c .before .before .args .column in
-    let e = table-at 10 (entry O36) false n (c .before .if1 .left) in
-    of-tags (λ k. getD (tabulated 10 0 (entry O36)) n false ≡ entry k n) 0 1 e e (c .before .before .args .self) (c .match .keys1)
+    let a = c .before .before .args in
+    of-table entry false 0 1 (a .column) (c .before .if1 .left) refl (a .self) (c .match .keys1)
 
 returns-3 : tie.Need-returns-3
 returns-3 c =
-    let n = c .before .before .args .column in
-    let e = table-at 10 (entry O40) false n (c .before .if1 .left) in
-    of-tags (λ k. getD (tabulated 10 0 (entry O40)) n false ≡ entry k n) 2 3 e e (c .before .before .args .self) (c .match .keys2)
+    let a = c .before .before .args in
+    of-table entry false 2 3 (a .column) (c .before .if1 .left) refl (a .self) (c .match .keys2)
 
 pub is-free-spec : {M : Type 1} → statement M
 is-free-spec = tie.close (tie.spec returns array-read-result array-read-result-2 returns-2 returns-3)

@@ -1,7 +1,5 @@
 -- `codes::Code::message_limit` meets its contract: the power fits a number of 64 bits.
--- Assumes nothing.
-use mathlib.Core.Path.{ap, _∙_}
-use Prim.Native.Nat.{ℕ, _^_}
+use mathlib.Core.Path.{_∙_}
 use native.Mathlib.Omega.{arith}
 use borrow.Author.Needs.{needs}
 use Rattle.codes.proofs.Codes.{bits-le}
@@ -18,7 +16,7 @@ shl-result c = omega (arith, c .message-bits .ensures, bits-le (c .before .args 
 returns : tie.Need-returns
 returns c =
     power-fits (c .message-bits .result) (omega (arith, c .message-bits .ensures, bits-le (c .before .args .self)))
-    ∙ ap (λ (k : ℕ). 2 ^ k) (c .message-bits .ensures)
+    ∙ rw (c .message-bits .ensures)
 
 pub message-limit-spec : {M : Type 1} → statement M
 message-limit-spec = tie.close (tie.spec message-bits-requires shl-result returns)

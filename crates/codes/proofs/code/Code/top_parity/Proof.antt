@@ -1,5 +1,4 @@
 -- `codes::Code::top_parity` meets its contract: the two rules, at each length.
--- Assumes nothing.
 use mathlib.Core.Path.{_≡_, refl}
 use mathlib.Core.Bool.{false}
 use Rattle.codes.specs.Projection.{wanted}

@@ -1,7 +1,5 @@
 -- `codes::Code::word_limit` meets its contract: the power fits a number of 64 bits.
--- Assumes nothing.
-use mathlib.Core.Path.{ap, _∙_}
-use Prim.Native.Nat.{ℕ, _^_}
+use mathlib.Core.Path.{_∙_}
 use native.Mathlib.Omega.{arith}
 use borrow.Author.Needs.{needs}
 use Rattle.codes.proofs.Codes.{width-le}
@@ -18,7 +16,7 @@ shl-result c = omega (arith, c .width .ensures, width-le (c .before .args .self)
 returns : tie.Need-returns
 returns c =
     power-fits (c .width .result) (omega (arith, c .width .ensures, width-le (c .before .args .self)))
-    ∙ ap (λ (k : ℕ). 2 ^ k) (c .width .ensures)
+    ∙ rw (c .width .ensures)
 
 pub word-limit-spec : {M : Type 1} → statement M
 word-limit-spec = tie.close (tie.spec width-requires shl-result returns)

@@ -1,0 +1,111 @@
+-- `correction_tests::lists::run` is safe: a slot is looked up only below the number of slots.
+use Prim.Native.Nat.{_-_}
+use native.Mathlib.Omega.{arith}
+use borrow.Author.Needs.{needs}
+use Rattle.correction_tests.proofs.lists.run.Statement.{statement}
+use Rattle.correction_tests.proofs.lists.run.Tie as tie
+
+abbrev Inv-loop : tie.InvT-loop
+Inv-loop code list bytes₀ slots₀ state₀ made₀ bytes slots state made = Unit {0}
+
+abbrev μ-loop : tie.MeasureT-loop
+μ-loop code list bytes₀ slots₀ state₀ made₀ bytes slots state made = 400 - made
+
+blank-requires : tie.Need-blank-requires Inv-loop μ-loop
+blank-requires c κs = search needs
+
+slice-aggregate-make : tie.Need-slice-aggregate-make Inv-loop μ-loop
+slice-aggregate-make c = omega arith
+
+make-requires : tie.Need-make-requires Inv-loop μ-loop
+make-requires c κs = search needs
+
+draw-requires : tie.Need-draw-requires Inv-loop μ-loop
+draw-requires c κs = search needs
+
+add-state : tie.Need-add-state Inv-loop μ-loop
+add-state c = omega arith
+
+add-state-2 : tie.Need-add-state-2 Inv-loop μ-loop
+add-state-2 c = omega arith
+
+loop-holds : tie.Need-loop-holds Inv-loop μ-loop
+loop-holds c = tt
+
+draw-requires-2 : tie.Need-draw-requires-2 Inv-loop μ-loop
+draw-requires-2 c κs = search needs
+
+draw-requires-3 : tie.Need-draw-requires-3 Inv-loop μ-loop
+draw-requires-3 c κs = search needs
+
+draw-requires-4 : tie.Need-draw-requires-4 Inv-loop μ-loop
+draw-requires-4 c κs = search needs
+
+draw-requires-5 : tie.Need-draw-requires-5 Inv-loop μ-loop
+draw-requires-5 c κs = search needs
+
+call-from-requires : tie.Need-call-from-requires Inv-loop μ-loop
+call-from-requires c κs = search needs
+
+about-requires : tie.Need-about-requires Inv-loop μ-loop
+about-requires c κs = search needs
+
+make-call-requires : tie.Need-make-call-requires Inv-loop μ-loop
+make-call-requires c κs = search needs
+
+mul-after : tie.Need-mul-after Inv-loop μ-loop
+mul-after c = omega arith
+
+array-copy-out-after : tie.Need-array-copy-out-after Inv-loop μ-loop
+array-copy-out-after c = omega arith
+
+after-requires : tie.Need-after-requires Inv-loop μ-loop
+after-requires c κs = search needs
+
+mul-slots : tie.Need-mul-slots Inv-loop μ-loop
+mul-slots c = omega arith
+
+array-set-from-slots : tie.Need-array-set-from-slots Inv-loop μ-loop
+array-set-from-slots c = omega arith
+
+add-made : tie.Need-add-made Inv-loop μ-loop
+add-made c = omega arith
+
+loop-less : tie.Need-loop-less Inv-loop μ-loop
+loop-less c = omega arith
+
+loop-again : tie.Need-loop-again Inv-loop μ-loop
+loop-again c = tt
+
+returns : tie.Need-returns Inv-loop μ-loop
+returns c = omega arith
+
+pub run-spec : {M : Type 1} → statement M
+run-spec =
+    tie.close
+    (tie.spec
+    Inv-loop
+    μ-loop
+    blank-requires
+    slice-aggregate-make
+    make-requires
+    draw-requires
+    add-state
+    add-state-2
+    loop-holds
+    draw-requires-2
+    draw-requires-3
+    draw-requires-4
+    draw-requires-5
+    call-from-requires
+    about-requires
+    make-call-requires
+    mul-after
+    array-copy-out-after
+    after-requires
+    mul-slots
+    array-set-from-slots
+    add-made
+    loop-less
+    loop-again
+    returns)

@@ -1,0 +1,33 @@
+-- What each call meets and gives, by what it sees of a trace: one table for the bytes and for the plain trace.
+use mathlib.Core.List.{List, [], _∷_}
+use Prim.Native.Nat.{ℕ}
+use Rattle.codes.specs.Answer.{Answer, accepted, Row, mapAnswer}
+use Rattle.codes.specs.Projection.{Projection}
+use Rattle.trace.specs.declared.slot.Content.{Content}
+use Rattle.trace.specs.Answers.{readingValues, surveyValues}
+use Rattle.trace.specs.Calls.{Call, put, flip, mark, clear, read, survey}
+use Rattle.trace.specs.View.{View, countOf, contentOf, readAlone}
+use Rattle.trace.specs.Survey.{surveyOf}
+use Rattle.trace.specs.Refusals.{noSlot, badSlot, blankSlot, noPosition, tooLarge}
+
+-- the rows of flip and mark behind their slot's
+abbrev pub bitRows : Projection → Content → ℕ → List Row
+bitRows π c position = badSlot c ∷ blankSlot c ∷ noPosition π position ∷ []
+
+-- a call's refusals in order, behind 7 and 8
+abbrev pub refusals : Call → View → List Row
+refusals (put slot step reading) v = noSlot (countOf v) slot ∷ tooLarge (v .code) step reading ∷ []
+refusals (flip slot position) v = noSlot (countOf v) slot ∷ bitRows (v .code) (contentOf v slot) position
+refusals (mark slot position) v = noSlot (countOf v) slot ∷ bitRows (v .code) (contentOf v slot) position
+refusals (clear slot) v = noSlot (countOf v) slot ∷ []
+refusals (read slot) v = noSlot (countOf v) slot ∷ badSlot (contentOf v slot) ∷ blankSlot (contentOf v slot) ∷ []
+refusals survey v = []
+
+-- what a call gives where none of them is met: 5 on a read 'is tried only after all others pass'
+abbrev pub gives : Call → View → Answer (List ℕ)
+gives (put slot step reading) v = accepted []
+gives (flip slot position) v = accepted []
+gives (mark slot position) v = accepted []
+gives (clear slot) v = accepted []
+gives (read slot) v = mapAnswer readingValues (readAlone v slot)
+gives survey v = accepted (surveyValues (surveyOf v))
