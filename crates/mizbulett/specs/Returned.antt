@@ -1,11 +1,11 @@
 -- What a C caller has after a call: the number that is returned, and what `out` or the buffer holds then.
-use mathlib.Core.List.{List, [], _∷_, _++_}
+use mathlib.Core.List.{List, _∷_, _++_}
 use Prim.Native.Nat.{ℕ}
 use Rattle.codes.specs.Answer.{Answer, accepted, refused}
 use Rattle.trace.specs.declared.answer.Pressures.{Pressures}
 use Rattle.trace.specs.declared.answer.Survey.{Survey}
 use Rattle.trace.specs.Calls.{After}
-use Rattle.trace.specs.Answers.{countsValues}
+use Rattle.trace.specs.Answers.{countsValues, pressuresInThree}
 
 pub record Returned : Type 0 where
   pub number : ℕ
@@ -28,10 +28,10 @@ returns (refused n) out = returned n out
 abbrev pub leaves : After (List ℕ) → Returned
 leaves a = returned (numberOf (a .answer)) (a .state)
 
--- a survey in ten values: the seventh tells whether smallest, largest and mean are present (1), or absent (0, and three zeros behind it)
-abbrev pub pressuresInFour : Pressures → List ℕ
-pressuresInFour Pressures.Absent = 0 ∷ 0 ∷ 0 ∷ 0 ∷ []
-pressuresInFour (Pressures.Present smallest largest mean) = 1 ∷ smallest ∷ largest ∷ mean ∷ []
+-- a survey in ten values: the seventh is 1 where smallest, largest and mean are present, and 0, with three zeros behind it, where they are absent
+abbrev pub presence : Pressures → ℕ
+presence Pressures.Absent = 0
+presence (Pressures.Present smallest largest mean) = 1
 
 abbrev pub surveyInTen : Survey → List ℕ
-surveyInTen s = countsValues (s .counts) ++ (s .sum ∷ pressuresInFour (s .pressures))
+surveyInTen s = countsValues (s .counts) ++ (s .sum ∷ presence (s .pressures) ∷ pressuresInThree (s .pressures))

@@ -9,7 +9,7 @@ ghost use Rattle.codes.specs.Answer.{mapAnswer};
 ghost use Rattle.trace.specs.Calls.{put, flip, mark, clear, read};
 ghost use Rattle.trace.specs.Trace.{onBytes, make, surveyIn};
 ghost use Rattle.trace.specs.Answers.{doneAnswer};
-ghost use Rattle.mizbulett.specs.Returned.{numberOf, returned, returns, leaves, surveyInTen};
+ghost use Rattle.mizbulett.specs.Returned.{presence, numberOf, returned, returns, leaves, surveyInTen};
 
 // 0 where a call is accepted, else the refusal's number.
 fn number(done: Done) -> u64
@@ -75,30 +75,25 @@ pub extern "C" fn mizbulett_read(buf: &[u8], slot: u64, out: &mut [u64; 4]) -> u
     }
 }
 
-// The counts and the sum; then 1, smallest, largest and mean, or four zeros where these are absent.
+// Whether smallest, largest and mean are present: 1, or 0 where they are absent.
+fn present(p: Pressures) -> u64
+    ensures { λ r. ⌜ r ≡ presence p ⌝ }
+{
+    match p {
+        Pressures::Absent => 0,
+        Pressures::Present(_, _, _) => 1,
+    }
+}
+
+// The values of a survey, with whether the last three are present before these.
 fn in_ten(s: Survey) -> [u64; 10]
     ensures { λ r. ⌜ r ≡ surveyInTen s ⌝ }
 {
-    let counts = s.counts;
-    let c = counts.values();
+    let v = s.values();
+    let x = v.values;
     let pressures = s.pressures;
-    match pressures {
-        Pressures::Absent => [c[0], c[1], c[2], c[3], c[4], s.sum, 0, 0, 0, 0],
-        Pressures::Present(smallest, largest, mean) => {
-            [
-                c[0],
-                c[1],
-                c[2],
-                c[3],
-                c[4],
-                s.sum,
-                1,
-                smallest,
-                largest,
-                mean,
-            ]
-        }
-    }
+    let flag = present(pressures);
+    [x[0], x[1], x[2], x[3], x[4], x[5], flag, x[6], x[7], x[8]]
 }
 
 // Counts the slots, and writes blank, read, over, lost, bad, sum, present, smallest, largest and mean. Refusals 7 and 8.

@@ -1,69 +1,74 @@
--- `mizbulett::trace_calls::in_ten` meets its contract: the pressures are absent or present.
+-- `mizbulett::trace_calls::in_ten` meets its contract: the pressures are absent or present, and their three places are whole in either case.
+use Prim.Native.Nat.{ℕ}
+use mathlib.Core.Path.{_≡_, refl}
+use mathlib.Core.List.{[], _∷_, _++_}
+use lib.ListN.{getD}
+use Rattle.trace.specs.declared.answer.Counts.{Counts}
+use Rattle.trace.specs.declared.answer.Pressures.{Pressures}
+use Rattle.trace.specs.Answers.{countsValues, pressuresInThree}
+use Rattle.mizbulett.specs.Returned.{presence, surveyInTen}
 use borrow.Author.Needs.{needs}
 use Rattle.mizbulett.proofs.trace_calls.in_ten.Statement.{statement}
 use Rattle.mizbulett.proofs.trace_calls.in_ten.Tie as tie
 
+in-ten : (slots sum : ℕ) (c : Counts) (p : Pressures)
+    → countsValues c
+    ++ (sum ∷ presence p ∷ getD (pressuresInThree p) 0 0 ∷ getD (pressuresInThree p) 1 0 ∷ getD (pressuresInThree p) 2 0 ∷ [])
+    ≡ surveyInTen (record { slots = slots; counts = c; sum = sum; pressures = p })
+in-ten slots sum c Pressures.Absent = refl
+in-ten slots sum c (Pressures.Present smallest largest mean) = refl
+
 values-requires : tie.Need-values-requires
 values-requires c κs = search needs
 
-enum-told : tie.Need-enum-told
-enum-told c = search needs
+present-requires : tie.Need-present-requires
+present-requires c κs = search needs
 
-array-read-t12 : tie.Need-array-read-t12
-array-read-t12 c = search needs
+array-read-t8 : tie.Need-array-read-t8
+array-read-t8 c = search needs
 
-array-read-t15 : tie.Need-array-read-t15
-array-read-t15 c = search needs
+array-read-t11 : tie.Need-array-read-t11
+array-read-t11 c = search needs
 
-array-read-t18 : tie.Need-array-read-t18
-array-read-t18 c = search needs
+array-read-t14 : tie.Need-array-read-t14
+array-read-t14 c = search needs
 
-array-read-t21 : tie.Need-array-read-t21
-array-read-t21 c = search needs
+array-read-t17 : tie.Need-array-read-t17
+array-read-t17 c = search needs
 
-array-read-t24 : tie.Need-array-read-t24
-array-read-t24 c = search needs
+array-read-t20 : tie.Need-array-read-t20
+array-read-t20 c = search needs
 
-enum-known-pressures : tie.Need-enum-known-pressures
-enum-known-pressures c = search needs
+array-read-t23 : tie.Need-array-read-t23
+array-read-t23 c = search needs
 
-array-read-t27 : tie.Need-array-read-t27
-array-read-t27 c = search needs
+array-read-t26 : tie.Need-array-read-t26
+array-read-t26 c = search needs
 
-array-read-t30 : tie.Need-array-read-t30
-array-read-t30 c = search needs
+array-read-t29 : tie.Need-array-read-t29
+array-read-t29 c = search needs
 
-array-read-t33 : tie.Need-array-read-t33
-array-read-t33 c = search needs
-
-array-read-t36 : tie.Need-array-read-t36
-array-read-t36 c = search needs
-
-array-read-t39 : tie.Need-array-read-t39
-array-read-t39 c = search needs
+array-read-t32 : tie.Need-array-read-t32
+array-read-t32 c = search needs
 
 returns : tie.Need-returns
-returns c = rw (c .before .before .values .ensures, c .enum-told .given .1)
-
-returns-2 : tie.Need-returns-2
-returns-2 c = rw (c .before .before .before .values .ensures, c .before .pressures .given .1)
+returns c =
+    let s = c .before .before .before .args .s in
+    rw (c .present .ensures, c .before .before .values .ensures) (in-ten (s .slots) (s .sum) (s .counts) (s .pressures))
 
 pub in-ten-spec : {M : Type 1} → statement M
 in-ten-spec =
     tie.close
     (tie.spec
     values-requires
-    enum-told
-    array-read-t12
-    array-read-t15
-    array-read-t18
-    array-read-t21
-    array-read-t24
-    enum-known-pressures
-    array-read-t27
-    array-read-t30
-    array-read-t33
-    array-read-t36
-    array-read-t39
-    returns
-    returns-2)
+    present-requires
+    array-read-t8
+    array-read-t11
+    array-read-t14
+    array-read-t17
+    array-read-t20
+    array-read-t23
+    array-read-t26
+    array-read-t29
+    array-read-t32
+    returns)

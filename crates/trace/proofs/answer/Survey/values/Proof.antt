@@ -1,12 +1,12 @@
 -- `trace::Survey::values` meets its contract: the pressures are absent or present, and their three places are whole in either case.
 use Prim.Native.Nat.{ℕ, _+_}
 use mathlib.Core.Path.{_≡_, refl}
-use mathlib.Core.List.{[], _∷_}
+use mathlib.Core.List.{[], _∷_, _++_}
 use lib.ListN.{length, getD}
 use Rattle.trace.specs.declared.answer.Counts.{Counts}
 use Rattle.trace.specs.declared.answer.Pressures.{Pressures}
 use Rattle.trace.specs.declared.answer.SurveyValues.{SurveyValues}
-use Rattle.trace.specs.Answers.{pressuresValues, pressuresInThree, surveyInNine}
+use Rattle.trace.specs.Answers.{countsValues, pressuresValues, pressuresInThree, surveyInNine}
 use borrow.Author.Needs.{needs}
 use Rattle.trace.proofs.answer.Survey.values.Statement.{statement}
 use Rattle.trace.proofs.answer.Survey.values.Tie as tie
@@ -15,8 +15,8 @@ in-nine : (slots sum : ℕ) (c : Counts) (p : Pressures)
     → _≡_ {A = SurveyValues} (record {
       count = 6 + length (pressuresValues p);
       values =
-          c .blank ∷ c .read ∷ c .over ∷ c .lost ∷ c .bad ∷ sum
-          ∷ getD (pressuresInThree p) 0 0 ∷ getD (pressuresInThree p) 1 0 ∷ getD (pressuresInThree p) 2 0 ∷ [];
+          countsValues c
+          ++ (sum ∷ getD (pressuresInThree p) 0 0 ∷ getD (pressuresInThree p) 1 0 ∷ getD (pressuresInThree p) 2 0 ∷ []);
     })
     (surveyInNine (record { slots = slots; counts = c; sum = sum; pressures = p }))
 in-nine slots sum c Pressures.Absent = refl
