@@ -10,7 +10,7 @@ use lib.ListN.{length, getD, take, drop, set, replicate, List·getD-append}
 use lib.Seq.{drop-cons, drop-set-lt, getD-set-same, lt-length-set, getD-take}
 use Rattle.symbols.specs.Symbol.{Symbol, symbolOf}
 use Rattle.symbols.specs.Column.{columnOf}
-use Rattle.symbols.proofs.Numbers.{column-mod}
+use Rattle.symbols.proofs.Claims.{numbers}
 use Rattle.codes.specs.Digits.{symbols, columns, digits, numberOf}
 use Rattle.codes.specs.Vector.{scale}
 use Rattle.codes.specs.Projection.{Projection, size}
@@ -25,17 +25,17 @@ drop-set l j v h =
 pub unpack-step : (l : List ℕ) (j k n : ℕ) → j < length l → map columnOf (take k (drop (suc j) l)) ≡ digits columns k n →
     map columnOf (take (suc k) (drop j (set l j (n / 16 ^ k % 16)))) ≡ digits columns (suc k) n
 unpack-step l j k n h e =
-    rw (drop-set l j (n / 16 ^ k % 16) h) (ap₂ _∷_ (column-mod (n / 16 ^ k)) e)
+    rw (drop-set l j (n / 16 ^ k % 16) h) (ap₂ _∷_ (numbers .columns .modulo (n / 16 ^ k)) e)
 
 pub next-quotient : (k n : ℕ) → n / 16 ^ k / 16 ≡ n / 16 ^ suc k
 next-quotient k n = rw (div-div-eq-div-mul n (16 ^ k) 16, pow-suc 16 k)
 
 -- the table of the matrix's columns times each symbol
-length-scaled : (H : List (List Symbol)) → length (scaled H) ≡ 4 * length H
+pub length-scaled : (H : List (List Symbol)) → length (scaled H) ≡ 4 * length H
 length-scaled [] = refl
 length-scaled (h ∷ hs) = omega (arith, length-scaled hs)
 
-scaled-entry : (H : List (List Symbol)) (i v : ℕ) → i < length H → v < 4 →
+pub scaled-entry : (H : List (List Symbol)) (i v : ℕ) → i < length H → v < 4 →
     getD (scaled H) (4 * i + v) 0 ≡ numberOf symbols (scale (symbolOf v) (getD H i []))
 scaled-entry [] i v h l = absurd (omega arith)
 scaled-entry (h ∷ hs) zero v hi hv = first v hv

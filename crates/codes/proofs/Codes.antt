@@ -41,7 +41,7 @@ of-table f d i j n h alike =
     of-tags (λ c. getD (tabulated 10 0 (f (getD codes i O36))) n d ≡ f c n) i j e (e ∙ alike)
 
 -- what holds of both matrices, whatever the rule, holds of each code
-pub by-length : (P : Projection → Type 0) → ((r : TopRule) → P (nine r)) → ((r : TopRule) → P (ten r)) → (c : Code) → P (projection c)
+by-length : (P : Projection → Type 0) → ((r : TopRule) → P (nine r)) → ((r : TopRule) → P (ten r)) → (c : Code) → P (projection c)
 by-length P a b O36 = a ruleO
 by-length P a b E36 = a ruleE
 by-length P a b O40 = b ruleO

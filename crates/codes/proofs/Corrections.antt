@@ -5,7 +5,7 @@
 -- filling is the only one that does. So it is enough to look there once for each filling.
 use mathlib.Core.Path.{_≡_, refl, sym, ap, ap₂, _∙_}
 use mathlib.Core.Logic.{_⊎_, inl, inr, ⊎-elim}
-use mathlib.Core.Bool.{Bool, true, false, cond, Bool-discrete, false≢true}
+use mathlib.Core.Bool.{Bool, true, false, cond, false≢true}
 use mathlib.Core.List.{List, [], _∷_}
 use mathlib.Core.Option.{none, some}
 use Prim.Native.Nat.{ℕ, zero, suc, _+_, _*_, _^_, _≤_, _<_}
@@ -15,8 +15,8 @@ use borrow.Author.Tests.{le-leb, lt-leb, leb-true, leb-false}
 use lib.Bits.{bitXor, bitOr, xor-zero-r, or-zero-r}
 use lib.Dec.{leb}
 use lib.ListN.{length}
-use Rattle.symbols.specs.Column.{Column, Column-discrete, _⊕_}
-use Rattle.symbols.proofs.Every.{columns, _⊗_, law}
+use Rattle.symbols.specs.Column.{Column}
+use Rattle.symbols.proofs.Claims.{columns-add}
 use Rattle.codes.specs.declared.answer.Correction.{Correction}
 use Rattle.codes.specs.Answer.{refused}
 use Rattle.codes.specs.Projection.{Projection, width, messageBits}
@@ -26,7 +26,7 @@ use Rattle.codes.specs.Correction.{outside, wrong, ones, isNear, Near, c
 use Rattle.codes.specs.Codes.{correctionAnswer, correcting}
 use Rattle.codes.specs.ContractsOfSearch.{Within, NearWithin}
 use Rattle.codes.proofs.Placing.{Systematic}
-use Rattle.codes.proofs.Messages.{encode-below, encode-codeword, decode-encode, decode-below, encode-decode}
+use Rattle.codes.proofs.Messages.{encode-below, encode-codeword, decode-below, encode-decode}
 use Rattle.codes.proofs.Distance.{Apart}
 use Rattle.codes.proofs.Nearness.{sum, one-codeword, filled}
 use Rattle.codes.proofs.Sums.{word-xor}
@@ -40,17 +40,13 @@ pub sum-near : (π : Projection) (w m x : ℕ) → sum π w m x ≤ 7 → isNear
 sum-near π w m x h = le-leb (sum π w m x) 7 h
 
 module _ (π : Projection) (w m : ℕ) where
-  -- what mending gives of a codeword and its message
-  abbrev pub correctionAt : ℕ → ℕ → Correction
-  correctionAt x n = record { codeword = x; message = n; wrong = wrong π w m x; marks = ones π m }
-
   -- the search through n messages from k on stops at one, or finds none
   record Stops (n k : ℕ) : Type 0 where
     at : ℕ
     low : k ≤ at
     high : at < k + n
     close : isNear π w m (encode π at) ≡ true
-    gives : nearFrom π w m n k ≡ some (correctionOf π w m at)
+    gives : nearFrom π w m n k ≡ some (correctionOf π w m (encode π at))
 
   record Misses (n k : ℕ) : Type 0 where
     empty : (i : ℕ) → k ≤ i → i < k + n → isNear π w m (encode π i) ≡ true → ⊥
@@ -61,7 +57,7 @@ module _ (π : Projection) (w m : ℕ) where
   searched zero k = inr (record { empty = λ i a b t. absurd (omega arith); gives = refl })
   searched (suc n) k = go (isNear π w m (encode π k)) refl (searched n (suc k))
     where
-      first : {b : Bool} → isNear π w m (encode π k) ≡ b → nearFrom π w m (suc n) k ≡ cond b (some (correctionOf π w m k)) (nearFrom π w m n (suc k))
+      first : {b : Bool} → isNear π w m (encode π k) ≡ b → nearFrom π w m (suc n) k ≡ cond b (some (correctionOf π w m (encode π k))) (nearFrom π w m n (suc k))
       first e = rw e
 
       later : (i : ℕ) → isNear π w m (encode π k) ≡ false → isNear π w m (encode π i) ≡ true → k ≤ i → k < i
@@ -76,11 +72,11 @@ module _ (π : Projection) (w m : ℕ) where
 
   -- what mending gives is the codeword of a message of the code, and near
   pub corrected : (r : Correction) → correct π w m ≡ some r →
-      (n : ℕ) × (n < 2 ^ messageBits π) × (r ≡ correctionOf π w m n) × (isNear π w m (encode π n) ≡ true)
+      (n : ℕ) × (n < 2 ^ messageBits π) × (r ≡ correctionOf π w m (encode π n)) × (isNear π w m (encode π n) ≡ true)
   corrected r e = go (searched (2 ^ messageBits π) 0)
     where
       go : Stops (2 ^ messageBits π) 0 ⊎ Misses (2 ^ messageBits π) 0 →
-          (n : ℕ) × (n < 2 ^ messageBits π) × (r ≡ correctionOf π w m n) × (isNear π w m (encode π n) ≡ true)
+          (n : ℕ) × (n < 2 ^ messageBits π) × (r ≡ correctionOf π w m (encode π n)) × (isNear π w m (encode π n) ≡ true)
       go (inl s) = (s .at, omega (arith, s .high), cc (s .gives), s .close)
       go (inr s) = let z : _≡_ {A = ℕ} 0 1 = cc (s .gives) in absurd (omega arith)
 
@@ -112,14 +108,13 @@ module _ (π : Projection) (w m : ℕ) where
         omega (arith, ap (sum π w m) same)
 
     -- mending gives the near codeword; it gives nothing where none is near, and only there
-    pub correct-near : (x : ℕ) → Near π w m x → correct π w m ≡ some (correctionAt x (decode π x))
+    pub correct-near : (x : ℕ) → Near π w m x → correct π w m ≡ some (correctionOf π w m x)
     correct-near x c = go (searched (2 ^ messageBits π) 0)
       where
-        go : Stops (2 ^ messageBits π) 0 ⊎ Misses (2 ^ messageBits π) 0 → correct π w m ≡ some (correctionAt x (decode π x))
+        go : Stops (2 ^ messageBits π) 0 ⊎ Misses (2 ^ messageBits π) 0 → correct π w m ≡ some (correctionOf π w m x)
         go (inl s) =
             let codeword : encode π (s .at) ≡ x = one-near (encode π (s .at)) x (of-message (s .at) (s .close)) c in
-            let message : s .at ≡ decode π x = sym (decode-encode π sys (s .at) (omega (arith, s .high))) ∙ ap (decode π) codeword in
-            rw (s .gives, codeword, message)
+            rw (s .gives, codeword)
         go (inr s) =
             absurd (s .empty (decode π x) (omega arith) (omega (arith, decode-below π sys x (c .fits) (c .codeword)))
             (rw (encode-decode π sys x (c .fits) (c .codeword)) (c .near)))
@@ -174,14 +169,11 @@ module _ (π : Projection) (w m : ℕ) where
   many-marks h y c = omega (arith, near-sum π w m y (c .near))
 
 -- in the word that is a codeword with positions f inverted, wrong is the number of those that are not marked
-column-twice : (c d : Column) → c ⊕ (c ⊕ d) ≡ d
-column-twice c d = law (columns ⊗ columns) (Column-discrete Bool-discrete) (λ (c, d). c ⊕ (c ⊕ d)) (λ (c, d). d) tt (c, d)
-
 word-twice : (a b : List Column) → length a ≡ length b → a ⊞ (a ⊞ b) ≡ b
 word-twice [] [] e = refl
 word-twice [] (b ∷ bs) e = absurd (omega arith)
 word-twice (a ∷ xs) [] e = absurd (omega arith)
-word-twice (a ∷ xs) (b ∷ bs) e = ap₂ _∷_ (column-twice a b) (word-twice xs bs (omega arith))
+word-twice (a ∷ xs) (b ∷ bs) e = ap₂ _∷_ (columns-add .twice a b) (word-twice xs bs (omega arith))
 
 pub wrong-inverted : (π : Projection) (m x f : ℕ) → wrong π (bitXor x f) m x ≡ outside (word π f) (word π m)
 wrong-inverted π m x f =

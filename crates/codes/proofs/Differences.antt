@@ -1,34 +1,27 @@
 -- What a word's parities and syndrome say of its difference from a codeword.
 -- A column of another parity than the codeword's differs in a position. The difference's syndrome is the word's, so where no choice of at
--- most k live values has that syndrome, the difference has more than k live columns: each has a one, and two where all columns are even.
--- Of a syndrome other than zero that is so for k = 0, and for k = 1 if it has no entry in the table; an entry names a column and a value
--- that make the syndrome. These are computed tests of all syndromes.
+-- most l live values has that syndrome, the difference has more than l live columns: each has a one, and two where all columns are even.
 use mathlib.Core.Path.{_≡_, refl, sym, _∙_}
-use mathlib.Core.Bool.{Bool, true, false, not, _&&_, _||_}
+use mathlib.Core.Bool.{Bool, true, false, not}
 use mathlib.Core.List.{List, [], _∷_, map}
-use Prim.Native.Nat.{ℕ, zero, suc, _+_, _-_, _*_, _/_, _%_, _^_, _≤_, _<_}
+use Prim.Native.Nat.{ℕ, _+_, _*_, _≤_}
 use native.Mathlib.Omega.{arith}
-use lib.Dec.{T, leb, leb→le, ltb, ltb→lt, eqb, eqb→eq}
-use borrow.Author.Tests.{eq-eqb, ne-eqb}
-use lib.ListN.{length, getD, length-map}
-use Rattle.symbols.specs.Symbol.{_⊻_, Symbol, isZero, symbolOf}
+use lib.ListN.{length}
+use Rattle.symbols.specs.Symbol.{_⊻_, Symbol}
 use Rattle.symbols.specs.Column.{Column, value, parity, one, weight, _⊕_}
-use Rattle.symbols.proofs.Every.{columns as all-columns, _⊗_, law-le, below, at-below, and-left, and-right}
-use Rattle.codes.specs.Digits.{symbols, digits, numberOf}
-use Rattle.codes.specs.Vector.{addV, scale, isZeroV}
+use Rattle.symbols.proofs.Every.{columns as all-columns, law-le}
+use Rattle.symbols.proofs.Claims.{weights}
+use Rattle.codes.specs.Vector.{addV, isZeroV}
 use Rattle.codes.specs.Projection.{Projection, size}
-use Rattle.codes.specs.Word.{_⊞_, syndromeOf, allParity, weightOf, distance}
-use Rattle.codes.specs.ContractsOfSearch.{entry, tableFrom, entryTable, lacks}
-use Rattle.codes.proofs.Arrays.{tabulated, table-at}
+use Rattle.codes.specs.Word.{_⊞_, syndrome, syndromeOf, allParity, weightOf, distance}
+use Rattle.codes.specs.ContractsOfSearch.{lacks}
 use Rattle.codes.proofs.Vectors.{addV-assoc, add-zero-vector, addV-self}
-use Rattle.codes.proofs.Words.{length-sum, syndrome-sum, parity-first, parity-rest, parity-cons, count-cons}
-use Rattle.codes.proofs.Distance.{isLive, live, onlyZeros, only-zeros, even-word-weight, test-true}
+use Rattle.codes.proofs.Words.{syndrome-sum, parity-first, parity-rest, parity-cons, count-cons}
+use Rattle.codes.proofs.Distance.{isLive, live, even-word-weight}
 
 -- a column, and a word, differs from one that has the parity in at least as many positions as columns lack it
 lacks-weight : (p : Bool) (x y : Column) → parity y ≡ p → one (p ⊻ parity x) ≤ weight (x ⊕ y)
-lacks-weight p x y e =
-    rw (← e)
-    (law-le (all-columns ⊗ all-columns) (λ (x, y). one (parity y ⊻ parity x)) (λ (x, y). weight (x ⊕ y)) tt (x, y))
+lacks-weight p x y e = rw (← e) (weights .differ y x)
 
 pub lacks-distance : (p : Bool) (f c : List Column) → length f ≡ length c → allParity p c ≡ true → lacks p f ≤ distance f c
 lacks-distance p [] c e t = omega arith
@@ -74,15 +67,19 @@ live-weight : (cs : List Column) → live (map value cs) ≤ weightOf cs
 live-weight [] = omega arith
 live-weight (c ∷ cs) = omega (arith, law-le all-columns (λ c. isLive (value c)) weight tt c, live-weight cs)
 
--- f is a word with syndrome s, which no choice of at most l live values has, and c one with syndrome zero
-module _ (π : Projection) (l : ℕ) (s : List Symbol) (test : T (onlyZeros (π .matrix) l s false)) (f c : List Column)
+-- no choice of a code's values, at most l of them live, has the syndrome s
+abbrev pub Unmade : Projection → ℕ → List Symbol → Type 0
+Unmade π l s = (vs : List Symbol) → live vs ≤ l → isZeroV (addV s (syndrome (π .rows) (π .matrix) vs)) ≡ true → ⊥
+
+-- f is a word with such a syndrome, and c one with syndrome zero
+module _ (π : Projection) (l : ℕ) (s : List Symbol) (unmade : Unmade π l s) (f c : List Column)
     (known : s ≡ syndromeOf π f) (no-syndrome : isZeroV (syndromeOf π c) ≡ true) (ef : length f ≡ size π) (ec : length c ≡ size π) where
   none-live : live (map value (f ⊞ c)) ≤ l → ⊥
   none-live h =
       let e : length f ≡ length c = ef ∙ sym ec in
       let a = syndromeOf π f in
       let b = syndromeOf π c in
-      only-zeros (π .rows) (π .matrix) l s false test (map value (f ⊞ c)) (length-map (f ⊞ c) value ∙ length-sum f c e ∙ ef) h
+      unmade (map value (f ⊞ c)) h
       (rw (known, syndrome-sum π f c e, ← addV-assoc a a b) (add-zero-vector (addV a a) b no-syndrome ∙ addV-self a))
 
   pub none-close : distance f c ≤ l → ⊥
@@ -91,66 +88,3 @@ module _ (π : Projection) (l : ℕ) (s : List Symbol) (test : T (onlyZeros (π 
   -- where the difference is even, each live column has two ones
   pub none-even : allParity false (f ⊞ c) ≡ true → distance f c ≤ 2 * l + 1 → ⊥
   none-even t h = none-live (omega (arith, even-word-weight (f ⊞ c) t))
-
--- the packed syndrome of the column and the scale that an entry names, and the test that an entry names a column, and a scale other
--- than 0, that make a syndrome
-abbrev makes : Projection → ℕ → ℕ
-makes π e = numberOf symbols (scale (symbolOf (e % 4)) (getD (π .matrix) (e / 4 - 1) []))
-
-abbrev names : Projection → ℕ → ℕ → Bool
-names π s e = leb 4 e && (ltb (e / 4 - 1) (size π) && (not (isZero (symbolOf (e % 4))) && eqb (makes π e) s))
-
--- the tests of a code's table: a syndrome other than zero takes a live value to make it, and more than one if it has no entry; an entry
--- names what makes the syndrome
-pub record Tabled (π : Projection) : Type 0 where
-  pub nonzero : T (below (4 ^ π .rows) (λ s. eqb s 0 || onlyZeros (π .matrix) 0 (digits symbols (π .rows) s) false))
-  pub unnamed : T (below (4 ^ π .rows) (λ s. (eqb s 0 || not (eqb (entry π s) 0)) || onlyZeros (π .matrix) 1 (digits symbols (π .rows) s) false))
-  pub named : T (below (4 ^ π .rows) (λ s. eqb (entry π s) 0 || names π s (entry π s)))
-
--- the entry e names what makes the syndrome s
-pub record Named (π : Projection) (s e : ℕ) : Type 0 where
-  pub from : 4 ≤ e
-  pub place : e / 4 - 1 < size π
-  pub scaling : not (isZero (symbolOf (e % 4))) ≡ true
-  pub made : makes π e ≡ s
-
--- of two tests, one of which passes everywhere, the second passes where the first fails
-tested : (n : ℕ) (f g : ℕ → Bool) → T (below n (λ s. f s || g s)) → (s : ℕ) → s < n → f s ≡ false → T (g s)
-tested n f g t s h e = rw (e) at (at-below n (λ s. f s || g s) t s h)
-
-module _ (π : Projection) (tabled : Tabled π) (s : ℕ) (small : s < 4 ^ π .rows) where
-  -- no choice without a live value, and none with at most one, has the syndrome
-  pub more-than-none : (s ≡ 0 → ⊥) → T (onlyZeros (π .matrix) 0 (digits symbols (π .rows) s) false)
-  more-than-none n =
-      tested (4 ^ π .rows) (λ s. eqb s 0) (λ s. onlyZeros (π .matrix) 0 (digits symbols (π .rows) s) false) (tabled .nonzero) s small
-      (ne-eqb s 0 n)
-
-  pub more-than-one : (s ≡ 0 → ⊥) → entry π s ≡ 0 → T (onlyZeros (π .matrix) 1 (digits symbols (π .rows) s) false)
-  more-than-one n e =
-      tested (4 ^ π .rows) (λ s. eqb s 0 || not (eqb (entry π s) 0)) (λ s. onlyZeros (π .matrix) 1 (digits symbols (π .rows) s) false)
-      (tabled .unnamed) s small (rw (eq-eqb (entry π s) 0 e, ne-eqb s 0 n))
-
-  pub entry-names : (entry π s ≡ 0 → ⊥) → Named π s (entry π s)
-  entry-names n =
-      let e = entry π s in
-      let b = ltb (e / 4 - 1) (size π) in
-      let c = not (isZero (symbolOf (e % 4))) in
-      let d = eqb (makes π e) s in
-      let t = tested (4 ^ π .rows) (λ s. eqb (entry π s) 0) (λ s. names π s (entry π s)) (tabled .named) s small (ne-eqb e 0 n) in
-      let u = and-right (leb 4 e) (b && (c && d)) t in
-      let v = and-right b (c && d) u in
-      record {
-        from = leb→le 4 e (and-left (leb 4 e) (b && (c && d)) t);
-        place = ltb→lt (e / 4 - 1) (size π) (and-left b (c && d) u);
-        scaling = test-true c (and-left c d v);
-        made = eqb→eq (makes π e) s (and-right c d v);
-      }
-
--- the table of entries holds them in order
-table-tabulated : (n k : ℕ) (f : ℕ → ℕ) → tableFrom n k f ≡ tabulated n k f
-table-tabulated zero k f = refl
-table-tabulated (suc n) k f = rw (table-tabulated n (suc k) f)
-
-pub entry-at : (π : Projection) (l : List ℕ) (s : ℕ) → l ≡ entryTable π → s < 256 → getD l s 0 ≡ entry π s
-unfolding entryTable
-entry-at π l s e h = rw (e ∙ table-tabulated 256 0 (entry π)) (table-at 256 (entry π) 0 s h)

@@ -2,7 +2,6 @@
 -- A number modulo b^(k+1) is its digit k times b^k plus the number modulo b^k; all laws of digits follow from that by induction on k.
 -- Below them stand laws of powers and shifts.
 use mathlib.Core.Path.{_≡_, refl, sym, ap, ap₂, _∙_}
-use mathlib.Core.Bool.{Bool-discrete}
 use mathlib.Core.List.{List, [], _∷_}
 use Prim.Native.Nat.{ℕ, zero, suc, _+_, _*_, _/_, _%_, _^_, _<_}
 use native.Mathlib.Nat.{div-one, mod-lt, mod-eq-of-lt, mod-one, mul-zero, mul-suc, one-le-pow, one-mul, pow-zero, pow-suc, pow-succ'}
@@ -12,43 +11,22 @@ use lib.Dec.{lit<}
 use lib.ListN.{length}
 use lib.Pow.{pow-add, shl-exact, shr-shr}
 use Rattle.symbols.specs.Symbol.{hasBit}
-use Rattle.symbols.specs.Column.{one}
-use Rattle.symbols.proofs.Every.{bits as all-bits, law, law-below, number-discrete}
-use Rattle.symbols.proofs.Columns.{one-le}
-use Rattle.symbols.proofs.Numbers.{bit-mod, symbol-of-number, number-of-symbol, symbol-number-lt, symbol-mod}
-use Rattle.symbols.proofs.Numbers.{column-of-number, number-of-column, column-number-lt, column-mod}
+use Rattle.symbols.specs.Claims.{Counted}
+use Rattle.symbols.proofs.Claims.{numbers}
 use Rattle.codes.specs.Digits.{Digit, bits, symbols, columns, digits, numberOf}
 
--- a type of digits fits its base: its digits are the numbers below it, and a number's lowest digit is its remainder
-pub record Fit {A : Type 0} (d : Digit A) : Type 0 where
-  pub pos : 0 < d .base
-  pub small : (x : A) → d .number x < d .base
-  pub back : (x : A) → d .lowest (d .number x) ≡ x
-  pub there : (n : ℕ) → d .number (d .lowest n) ≡ n % d .base
-  pub modulo : (n : ℕ) → d .lowest (n % d .base) ≡ d .lowest n
-
--- it is enough that the digits and the numbers below the base are each other's, and that a number has its remainder's lowest digit
-below-base : {A : Type 0} (d : Digit A) → 0 < d .base → ((x : A) → d .number x < d .base) → ((x : A) → d .lowest (d .number x) ≡ x) →
-    ((n : ℕ) → n < d .base → d .number (d .lowest n) ≡ n) → ((n : ℕ) → d .lowest (n % d .base) ≡ d .lowest n) → Fit d
-below-base d pos small back there modulo =
-    record {
-      pos = pos;
-      small = small;
-      back = back;
-      there = λ n. ap (d .number) (sym (modulo n)) ∙ there (n % d .base) (mod-lt n pos);
-      modulo = modulo;
-    }
+-- a type of digits fits its base: its values stand for the numbers below the base
+abbrev pub Fit : {A : Type 0} → Digit A → Type 0
+Fit d = Counted (d .base) (d .lowest) (d .number)
 
 pub bits-fit : Fit bits
-bits-fit =
-    below-base bits (lit< tt) (λ x. omega (arith, one-le x)) (law all-bits Bool-discrete (λ x. hasBit 0 (one x)) (λ x. x) tt)
-    (law-below 2 number-discrete (λ n. one (hasBit 0 n)) (λ n. n) tt) (bit-mod 0 0)
+bits-fit = numbers .bits
 
 pub symbols-fit : Fit symbols
-symbols-fit = below-base symbols (lit< tt) symbol-number-lt symbol-of-number number-of-symbol symbol-mod
+symbols-fit = numbers .symbols
 
 pub columns-fit : Fit columns
-columns-fit = below-base columns (lit< tt) column-number-lt column-of-number number-of-column column-mod
+columns-fit = numbers .columns
 
 pub length-digits : {A : Type 0} (d : Digit A) (k n : ℕ) → length (digits d k n) ≡ k
 length-digits d zero n = refl
@@ -57,11 +35,11 @@ length-digits d (suc k) n = ap suc (length-digits d k n)
 module _ {A : Type 0} (d : Digit A) (fit : Fit d) where
   -- the place value of digit k is positive
   pub place-pos : (k : ℕ) → 0 < d .base ^ k
-  place-pos k = one-le-pow k (d .base) (fit .pos)
+  place-pos k = one-le-pow k (d .base) (fit .positive)
 
   -- a number's lowest k + 1 digits are digit k and the lowest k
   high-digit : (k n : ℕ) → n % d .base ^ suc k ≡ (n / d .base ^ k % d .base) * d .base ^ k + n % d .base ^ k
-  high-digit k n = rw (pow-succ' (d .base) k) (mod-mul n (fit .pos) (place-pos k))
+  high-digit k n = rw (pow-succ' (d .base) k) (mod-mul n (fit .positive) (place-pos k))
 
   -- the number of a number's lowest digits
   pub number-digits : (k n : ℕ) → numberOf d (digits d k n) ≡ n % d .base ^ k

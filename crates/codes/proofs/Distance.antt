@@ -4,17 +4,17 @@
 -- matrix are dependent. Then each column is empty or full, and the top rule shuts out exactly one full column.
 -- Of the code this takes a computed test of its matrix, and that odd codewords have eight ones (`Apart`).
 use mathlib.Core.Path.{_≡_, refl, sym, ap, ap₂, _∙_, subst}
-use mathlib.Core.Bool.{Bool, true, false, not, _&&_, _||_, Bool-discrete, and-eq-true-iff, and-true, and-assoc}
+use mathlib.Core.Bool.{Bool, true, false, not, _&&_, _||_, and-eq-true-iff, and-true, and-assoc}
 use mathlib.Core.List.{List, [], _∷_, map}
 use Prim.Native.Nat.{ℕ, zero, _+_, _-_, _*_, _≤_}
 use native.Mathlib.Omega.{arith}
-use borrow.Author.Tests.{le-leb, eq-eqb}
-use lib.Dec.{T, leb, eqb}
+use borrow.Author.Tests.{le-leb}
+use lib.Dec.{T, leb}
 use lib.ListN.{length, length-map}
 use Rattle.symbols.specs.Symbol.{_⊻_, Symbol, isZero}
-use Rattle.symbols.specs.Column.{Column, Column-discrete, value, top, one, weight, _⊕_}
-use Rattle.symbols.proofs.Every.{columns, symbols, _⊗_, implies, law-where}
-use Rattle.symbols.proofs.Columns.{odd-weight, even-weight, flat-weight}
+use Rattle.symbols.specs.Column.{Column, value, top, one}
+use Rattle.symbols.proofs.Every.{symbols, implies}
+use Rattle.symbols.proofs.Claims.{weights}
 use Rattle.codes.specs.Vector.{zeros, addV, scale, isZeroV}
 use Rattle.codes.specs.Projection.{Projection, size, count}
 use Rattle.codes.specs.Word.{_⊞_, syndrome, syndromeOf, allParity, topRow, weightOf, distance}
@@ -30,7 +30,7 @@ live [] = 0
 live (v ∷ vs) = isLive v + live vs
 
 -- a test of a matrix: every choice of values, at most k of them live, whose syndrome added to s is zero, is all zeros, and z is true.
--- With s zero and z true it says that no k columns are dependent; with z false, that no such choice brings s to zero
+-- With s zero and z true it says that no k columns are dependent
 abbrev pub onlyZeros : List (List Symbol) → ℕ → List Symbol → Bool → Bool
 onlyZeros [] k s z = not (isZeroV s) || z
 onlyZeros (h ∷ hs) k s z =
@@ -38,11 +38,11 @@ onlyZeros (h ∷ hs) k s z =
     let rest = onlyZeros hs (k - isLive v) (addV s (scale v h)) (z && isZero v) in
     not (leb (isLive v) k) || rest)
 
-pub test-true : (b : Bool) → T b → b ≡ true
+test-true : (b : Bool) → T b → b ≡ true
 test-true true t = refl
 test-true false t = absurd t
 
-pub only-zeros : (r : ℕ) (H : List (List Symbol)) (k : ℕ) (s : List Symbol) (z : Bool) → T (onlyZeros H k s z) →
+only-zeros : (r : ℕ) (H : List (List Symbol)) (k : ℕ) (s : List Symbol) (z : Bool) → T (onlyZeros H k s z) →
     (vs : List Symbol) → length vs ≡ length H → live vs ≤ k → isZeroV (addV s (syndrome r H vs)) ≡ true → T (z && isZeroV vs)
 only-zeros r [] k s z f [] e l i = subst T (sym (and-true z)) (implies (isZeroV s) z f (sym (add-zero-vector s (zeros r) (zeros-zero r)) ∙ i))
 only-zeros r [] k s z f (v ∷ vs) e l i = absurd (omega arith)
@@ -64,18 +64,18 @@ even-word-weight (c ∷ cs) e = go (isZero (value c)) refl (even-word-weight cs 
   where
     go : (b : Bool) → isZero (value c) ≡ b → 2 * live (map value cs) ≤ weightOf cs → 2 * live (map value (c ∷ cs)) ≤ weightOf (c ∷ cs)
     go true z h = rw z (omega arith)
-    go false z h = rw z (omega (arith, even-weight c (parity-first false c cs e) z))
+    go false z h = rw z (omega (arith, weights .even c (parity-first false c cs e) z))
 
 flat-word-weight : (cs : List Column) → allParity false cs ≡ true → isZeroV (map value cs) ≡ true → weightOf cs ≡ 4 * count (map top cs)
 flat-word-weight [] e z = refl
 flat-word-weight (c ∷ cs) e z =
     let both = and-eq-true-iff (isZero (value c)) (isZeroV (map value cs)) .0 z in
     let rest = flat-word-weight cs (parity-rest false c cs e) (both .1) in
-    omega (arith, flat-weight c (parity-first false c cs e) (both .0), count-cons (top c) (map top cs))
+    omega (arith, weights .flat c (parity-first false c cs e) (both .0), count-cons (top c) (map top cs))
 
 odd-word-weight : (cs : List Column) → allParity true cs ≡ true → length cs ≤ weightOf cs
 odd-word-weight [] e = omega arith
-odd-word-weight (c ∷ cs) e = omega (arith, odd-weight c (parity-first true c cs e), odd-word-weight cs (parity-rest true c cs e))
+odd-word-weight (c ∷ cs) e = omega (arith, weights .odd c (parity-first true c cs e), odd-word-weight cs (parity-rest true c cs e))
 
 -- where the top row has at most one one, its parity says whether it has one
 few-step : (t r : Bool) (l : List Bool) → (count l ≤ 1 → one r ≡ count l) → count (t ∷ l) ≤ 1 → one (t ⊻ r) ≡ count (t ∷ l)
@@ -109,17 +109,12 @@ pub light : (π : Projection) → Apart π → (p : Bool) (cs : List Column) →
 light π a true cs e k h = absurd (omega (arith, a .odd cs e k))
 light π a false cs e k h = omega (arith, even-light π a cs e (k .zero) (k .parities) h, ap one (k .tops ∙ wanted-even (π .rule)))
 
--- columns, and words of one length, that differ nowhere are equal
-weight-zero-same : (c d : Column) → weight (c ⊕ d) ≡ 0 → c ≡ d
-weight-zero-same c d e =
-    law-where (columns ⊗ columns) (Column-discrete Bool-discrete) (λ (c, d). eqb (weight (c ⊕ d)) 0) (λ (c, d). c) (λ (c, d). d) tt (c, d)
-    (eq-eqb (weight (c ⊕ d)) 0 e)
-
+-- words of one length that differ nowhere are equal
 same-word : (a b : List Column) → length a ≡ length b → distance a b ≡ 0 → a ≡ b
 same-word [] [] e z = refl
 same-word [] (y ∷ ys) e z = absurd (omega arith)
 same-word (x ∷ xs) [] e z = absurd (omega arith)
-same-word (x ∷ xs) (y ∷ ys) e z = ap₂ _∷_ (weight-zero-same x y (omega arith)) (same-word xs ys (omega arith) (omega arith))
+same-word (x ∷ xs) (y ∷ ys) e z = ap₂ _∷_ (weights .other x y (omega arith)) (same-word xs ys (omega arith) (omega arith))
 
 -- two codewords of one code that differ in at most seven positions are one
 pub close-same : (π : Projection) → Apart π → (p q : Bool) (a b : List Column) → length a ≡ size π → length b ≡ size π →

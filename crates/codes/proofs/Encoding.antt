@@ -9,8 +9,7 @@ use native.Mathlib.Omega.{arith}
 use lib.ListN.{length, length-map}
 use Rattle.symbols.specs.Symbol.{_⊻_, Symbol}
 use Rattle.symbols.specs.Column.{Column, value, parity, top, columnWith}
-use Rattle.symbols.proofs.Symbols.{xor-false, xor-twice}
-use Rattle.symbols.proofs.Columns.{with-of, parity-with, value-with, top-with}
+use Rattle.symbols.proofs.Claims.{exclusive-or, column-fixed}
 use Rattle.codes.specs.Projection.{Projection, wanted, count, size, topBits}
 use Rattle.codes.specs.Word.{allParity, topRow}
 use Rattle.codes.specs.Message.{Message, allValues, allTops, columnsWith, codewordOf, chosen, firstParity, butLast, messageIn}
@@ -26,23 +25,27 @@ length-with p (v ∷ vs) (t ∷ ts) e = ap suc (length-with p vs ts (omega arith
 with-parity : (p : Bool) (vs : List Symbol) (ts : List Bool) → allParity p (columnsWith p vs ts) ≡ true
 with-parity p [] ts = refl
 with-parity p (v ∷ vs) [] = refl
-with-parity p (v ∷ vs) (t ∷ ts) = parity-cons p (columnWith p v t) (columnsWith p vs ts) (parity-with p v t) (with-parity p vs ts)
+with-parity p (v ∷ vs) (t ∷ ts) = parity-cons p (columnWith p v t) (columnsWith p vs ts) (column-fixed .parities p v t) (with-parity p vs ts)
 
 pub with-values : (p : Bool) (vs : List Symbol) (ts : List Bool) → length vs ≡ length ts → map value (columnsWith p vs ts) ≡ vs
 with-values p [] ts e = refl
 with-values p (v ∷ vs) [] e = absurd (omega arith)
-with-values p (v ∷ vs) (t ∷ ts) e = ap₂ _∷_ (value-with p v t) (with-values p vs ts (omega arith))
+with-values p (v ∷ vs) (t ∷ ts) e = ap₂ _∷_ (column-fixed .values p v t) (with-values p vs ts (omega arith))
 
 with-tops : (p : Bool) (vs : List Symbol) (ts : List Bool) → length vs ≡ length ts → map top (columnsWith p vs ts) ≡ ts
 with-tops p [] [] e = refl
 with-tops p [] (t ∷ ts) e = absurd (omega arith)
 with-tops p (v ∷ vs) [] e = absurd (omega arith)
-with-tops p (v ∷ vs) (t ∷ ts) e = ap₂ _∷_ (top-with p v t) (with-tops p vs ts (omega arith))
+with-tops p (v ∷ vs) (t ∷ ts) e = ap₂ _∷_ (column-fixed .tops p v t) (with-tops p vs ts (omega arith))
 
 columns-with : (p : Bool) (cs : List Column) → allParity p cs ≡ true → columnsWith p (map value cs) (map top cs) ≡ cs
 columns-with p [] e = refl
 columns-with p (c ∷ cs) e =
-    ap₂ _∷_ (rw (← parity-first p c cs e) (with-of c)) (columns-with p cs (parity-rest p c cs e))
+    let v = value c in
+    let t = top c in
+    ap₂ _∷_
+    (column-fixed .determined (columnWith p v t) c (column-fixed .parities p v t ∙ sym (parity-first p c cs e)) (column-fixed .values p v t) (column-fixed .tops p v t))
+    (columns-with p cs (parity-rest p c cs e))
 
 -- the top row's parity is the sum of the top bits, so the last one is fixed by the others
 xors : List Bool → Bool
@@ -60,8 +63,8 @@ length-tops t (b ∷ bs) = ap suc (length-tops (b ⊻ t) bs)
 
 xor-tops : (t : Bool) (bs : List Bool) → xors (allTops t bs) ≡ t
 unfolding xors
-xor-tops t [] = xor-false t
-xor-tops t (b ∷ bs) = rw (xor-tops (b ⊻ t) bs) (xor-twice b t)
+xor-tops t [] = exclusive-or .zero t
+xor-tops t (b ∷ bs) = rw (xor-tops (b ⊻ t) bs) (exclusive-or .twice b t)
 
 but-last-tops : (t : Bool) (bs : List Bool) → butLast (allTops t bs) ≡ bs
 but-last-tops t [] = refl
@@ -71,9 +74,9 @@ but-last-tops t (b ∷ (c ∷ bs)) = rw (but-last-tops (b ⊻ t) (c ∷ bs))
 tops-but-last : (t : Bool) (bs : List Bool) → 0 < length bs → t ≡ xors bs → allTops t (butLast bs) ≡ bs
 unfolding xors
 tops-but-last t [] h e = absurd (omega arith)
-tops-but-last t (b ∷ []) h e = rw (e, xor-false b)
+tops-but-last t (b ∷ []) h e = rw (e, exclusive-or .zero b)
 tops-but-last t (b ∷ (c ∷ bs)) h e =
-    rw (tops-but-last (b ⊻ t) (c ∷ bs) (omega arith) (rw e (xor-twice b (c ⊻ xors bs))))
+    rw (tops-but-last (b ⊻ t) (c ∷ bs) (omega arith) (rw e (exclusive-or .twice b (c ⊻ xors bs))))
 
 pub length-but-last : (bs : List Bool) → length (butLast bs) ≡ length bs - 1
 length-but-last [] = refl

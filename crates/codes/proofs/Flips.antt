@@ -3,7 +3,7 @@
 -- column differs in an odd number of rows, so in one at least: with that row inverted the words are one position nearer. As a number, the
 -- inverted bits are shifted to the column's place and added by exclusive or.
 use mathlib.Core.Path.{_≡_, refl, sym, ap, ap₂, _∙_}
-use mathlib.Core.Bool.{Bool, true, false, Bool-discrete}
+use mathlib.Core.Bool.{Bool, true, false}
 use mathlib.Core.List.{List, [], _∷_, map}
 use Prim.Native.Nat.{ℕ, zero, suc, _+_, _-_, _*_, _/_, _^_, _≤_, _<_}
 use native.Mathlib.Nat.{lt-of-lt-of-le, div-eq-of-lt, zero-div, mul-div-cancel, mul-mod-left, mul-lt-mul-of-pos-right, pow-succ', pow-le-pow-right}
@@ -13,10 +13,9 @@ use lib.Dec.{lit<}
 use lib.ListN.{length, getD, take}
 use lib.Pow.{pow-mono, shl-lt}
 use Rattle.symbols.specs.Symbol.{_⊻_, Symbol}
-use Rattle.symbols.specs.Column.{Column, column, Column-discrete, value, parity, top, one, weight, _⊕_, columnOf}
-use Rattle.symbols.proofs.Every.{columns as all-columns, _⊗_, law, law-le, law-where, number-discrete}
-use Rattle.symbols.proofs.Symbols.{xor-assoc, xor-comm, xor-last}
-use Rattle.symbols.proofs.Columns.{value-add, parity-add, top-add}
+use Rattle.symbols.specs.Column.{Column, column, value, parity, top, one, weight, _⊕_, columnOf}
+use Rattle.symbols.proofs.Every.{columns as all-columns, _⊗_, law-le, law-where, number-discrete}
+use Rattle.symbols.proofs.Claims.{exclusive-or, columns-add, weights}
 use Rattle.codes.specs.Digits.{columns, digits}
 use Rattle.codes.specs.Vector.{addV, scale}
 use Rattle.codes.specs.Projection.{Projection, size, width}
@@ -50,15 +49,15 @@ syndrome-invert r (x ∷ H) zero q (c ∷ cs) e h =
     let a = scale (value c) x in
     let b = scale (value q) x in
     let rest = syndrome r H (map value cs) in
-    rw (value-add c q, scale-add (value c) (value q) x) (addV-assoc a b rest ∙ ap (addV a) (addV-comm b rest) ∙ sym (addV-assoc a rest b))
+    rw (columns-add .values c q, scale-add (value c) (value q) x) (addV-assoc a b rest ∙ ap (addV a) (addV-comm b rest) ∙ sym (addV-assoc a rest b))
 syndrome-invert r (x ∷ H) (suc j) q (c ∷ cs) e h =
     ap (addV (scale (value c) x)) (syndrome-invert r H j q cs (omega arith) (omega arith))
     ∙ sym (addV-assoc (scale (value c) x) (syndrome r H (map value cs)) (scale (value q) (getD H j [])))
 
 pub topRow-invert : (j : ℕ) (q : Column) (f : List Column) → j < length f → topRow (invert j q f) ≡ topRow f ⊻ top q
 topRow-invert j q [] h = absurd (omega arith)
-topRow-invert zero q (c ∷ cs) h = rw (top-add c q) (xor-last (top c) (top q) (topRow cs))
-topRow-invert (suc j) q (c ∷ cs) h = rw (topRow-invert j q cs (omega arith), xor-assoc (top c) (topRow cs) (top q))
+topRow-invert zero q (c ∷ cs) h = rw (columns-add .tops c q) (exclusive-or .last (top c) (top q) (topRow cs))
+topRow-invert (suc j) q (c ∷ cs) h = rw (topRow-invert j q cs (omega arith), exclusive-or .assoc (top c) (topRow cs) (top q))
 
 -- an even number of bits inverted keeps every column's parity
 pub parity-invert : (p : Bool) (j : ℕ) (q : Column) (f : List Column) → parity q ≡ false →
@@ -66,7 +65,7 @@ pub parity-invert : (p : Bool) (j : ℕ) (q : Column) (f : List Column) → pari
 parity-invert p j q [] e t = refl
 parity-invert p zero q (c ∷ cs) e t =
     parity-cons p (c ⊕ q) cs
-    (rw (parity-add c q, e) (xor-comm (parity c) false ∙ parity-first p c cs t)) (parity-rest p c cs t)
+    (rw (columns-add .parities c q, e) (exclusive-or .comm (parity c) false ∙ parity-first p c cs t)) (parity-rest p c cs t)
 parity-invert p (suc j) q (c ∷ cs) e t =
     parity-cons p c (invert j q cs) (parity-first p c cs t) (parity-invert p j q cs e (parity-rest p c cs t))
 
@@ -76,7 +75,7 @@ pub lacks-invert : (p : Bool) (j : ℕ) (q : Column) (f : List Column) → j < l
 lacks-invert p j q [] h e t = absurd (omega arith)
 lacks-invert p zero q (c ∷ cs) h e t =
     let l = map (λ c. p ⊻ parity c) cs in
-    let has : p ⊻ parity (c ⊕ q) ≡ false = rw (parity-add c q, e, ← xor-assoc p (parity c) true, t) in
+    let has : p ⊻ parity (c ⊕ q) ≡ false = rw (columns-add .parities c q, e, ← exclusive-or .assoc p (parity c) true, t) in
     omega (arith, count-cons (p ⊻ parity c) l, count-cons (p ⊻ parity (c ⊕ q)) l, ap one t, ap one has)
 lacks-invert p (suc j) q (c ∷ cs) h e t =
     omega (
@@ -94,14 +93,10 @@ distance-invert j q (x ∷ xs) [] e h = absurd (omega arith)
 distance-invert zero q (x ∷ xs) (y ∷ ys) e h = omega arith
 distance-invert (suc j) q (x ∷ xs) (y ∷ ys) e h = omega (arith, distance-invert j q xs ys (omega arith) (omega arith))
 
--- a column, and a word, gets nearer by no more than the bits that are inverted
-column-nearer-by : (x q y : Column) → weight (x ⊕ y) ≤ weight (x ⊕ q ⊕ y) + weight q
-column-nearer-by x q y =
-    law-le (all-columns ⊗ all-columns ⊗ all-columns) (λ (x, (q, y)). weight (x ⊕ y)) (λ (x, (q, y)). weight (x ⊕ q ⊕ y) + weight q) tt (x, (q, y))
-
+-- a word gets nearer by no more than the bits that are inverted
 pub nearer-by : (j : ℕ) (q : Column) (f c : List Column) → length f ≡ length c → j < length f →
     distance f c ≤ distance (invert j q f) c + weight q
-nearer-by j q f c e h = omega (arith, distance-invert j q f c e h, column-nearer-by (getD f j blank) q (getD c j blank))
+nearer-by j q f c e h = omega (arith, distance-invert j q f c e h, weights .nearer (getD f j blank) q (getD c j blank))
 
 -- the column that has a one in row r alone
 abbrev pub rowColumn : ℕ → Column
@@ -133,13 +128,10 @@ nearer j f c e h t =
     (r, oneRow-lt (x ⊕ y), omega (arith, distance-invert j (rowColumn r) f c e h, row-nearer x y t))
 
 -- the number of a word with bits of a column inverted: nothing is added to the other columns
-sum-blank : (c : Column) → c ⊕ blank ≡ c
-sum-blank c = law all-columns (Column-discrete Bool-discrete) (λ c. c ⊕ blank) (λ c. c) tt c
-
 sum-zero : (k : ℕ) (f : List Column) → length f ≡ k → f ⊞ digits columns k 0 ≡ f
 sum-zero k [] e = refl
 sum-zero zero (c ∷ cs) e = absurd (omega arith)
-sum-zero (suc k) (c ∷ cs) e = ap₂ _∷_ (rw (zero-div (16 ^ k)) (sum-blank c)) (sum-zero k cs (omega arith))
+sum-zero (suc k) (c ∷ cs) e = ap₂ _∷_ (rw (zero-div (16 ^ k)) (columns-add .blank c)) (sum-zero k cs (omega arith))
 
 -- i columns stand behind column j
 sum-shifted : (k j i q : ℕ) (f : List Column) → length f ≡ k → i + suc j ≡ k → q < 16 → f ⊞ digits columns k (q * 16 ^ i) ≡ invert j (columnOf q) f
@@ -152,7 +144,7 @@ sum-shifted (suc k) zero i q (c ∷ cs) e h l =
 sum-shifted (suc k) (suc j) i q (c ∷ cs) e h l =
     let next : q * 16 ^ i < 16 ^ suc i = rw (pow-succ' 16 i) (mul-lt-mul-of-pos-right l (place-pos columns columns-fit i)) in
     let small : q * 16 ^ i < 16 ^ k = lt-of-lt-of-le next (pow-le-pow-right (lit< tt) (omega arith)) in
-    ap₂ _∷_ (rw (div-eq-of-lt small) (sum-blank c)) (sum-shifted k j i q cs (omega arith) (omega arith) l)
+    ap₂ _∷_ (rw (div-eq-of-lt small) (columns-add .blank c)) (sum-shifted k j i q cs (omega arith) (omega arith) l)
 
 pub word-inverted : (π : Projection) (x j q : ℕ) → j < size π → q < 16 → word π (inverted π x j q) ≡ invert j (columnOf q) (word π x)
 word-inverted π x j q h l =

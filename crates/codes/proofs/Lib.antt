@@ -7,6 +7,8 @@ pub mod Claims
 pub mod Laws
 -- what an answer says of the rows of refusals before it
 pub mod Rows
+-- what a test says, both ways
+pub mod Tests
 -- ---- numbers and words
 -- numbers and their digits, there and back
 mod Digits
@@ -55,11 +57,11 @@ mod Readings
 mod Flips
 -- what parities and syndrome say of the difference from a codeword
 mod Differences
+-- what the table of entries names, and what takes more than one live value to make
+mod Entries
 -- what the search asks of a code, and one step of it
 mod Searches
 -- the end of the search, by the syndrome: all columns have the parity
 mod Syndromes
 -- the columns that lack the parity, one by one, for one parity and then for the other
 mod Seeking
--- the four codes can be searched
-mod Tables

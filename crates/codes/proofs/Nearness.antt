@@ -16,7 +16,7 @@ use lib.ListN.{length}
 use Rattle.symbols.specs.Symbol.{_⊻_}
 use Rattle.symbols.specs.Column.{Column, column, one, weight, _⊕_, columnOf, columnNumber}
 use Rattle.symbols.proofs.Every.{bits, columns as all-columns, _⊗_, law, law-le, number-discrete}
-use Rattle.symbols.proofs.Columns.{weight-le}
+use Rattle.symbols.proofs.Claims.{weights}
 use Rattle.codes.specs.Digits.{columns, numberOf}
 use Rattle.codes.specs.Projection.{Projection, width}
 use Rattle.codes.specs.Word.{word, _⊞_, isCodeword, weightOf, distance}
@@ -120,7 +120,7 @@ ones-wrong π w m x =
 -- a word has no more ones than bits
 weight-length : (cs : List Column) → weightOf cs ≤ 4 * length cs
 weight-length [] = omega arith
-weight-length (c ∷ cs) = omega (arith, weight-le c, weight-length cs)
+weight-length (c ∷ cs) = omega (arith, weights .most c, weight-length cs)
 
 pub ones-le : (π : Projection) (x : ℕ) → ones π x ≤ width π
 ones-le π x = omega (arith, weight-length (word π x), length-word π x)

@@ -12,7 +12,7 @@ use lib.Dec.{T}
 use lib.ListN.{length, length-map}
 use Rattle.symbols.specs.Symbol.{Symbol, s0, Symbol-discrete}
 use Rattle.symbols.proofs.Every.{symbols, passes, passed, and-left, and-right}
-use Rattle.symbols.proofs.Symbols.{add-comm, add-zero}
+use Rattle.symbols.proofs.Claims.{field}
 use Rattle.codes.specs.Vector.{zeros, addV, isZeroV}
 use Rattle.codes.specs.Projection.{Projection, count, size}
 use Rattle.codes.specs.Word.{syndrome}
@@ -53,9 +53,9 @@ place-chosen (false ∷ l) (v ∷ vs) e = rw (place-chosen l vs (omega arith))
 place-split : (l : List Bool) (fs ds : List Symbol) → addV (place l fs []) (place l [] ds) ≡ place l fs ds
 place-split [] fs ds = refl
 place-split (true ∷ l) [] ds = rw (place-split l [] ds)
-place-split (true ∷ l) (f ∷ fs) ds = ap₂ _∷_ (add-zero f) (place-split l fs ds)
+place-split (true ∷ l) (f ∷ fs) ds = ap₂ _∷_ (field .add-zero f) (place-split l fs ds)
 place-split (false ∷ l) fs [] = rw (place-split l fs [])
-place-split (false ∷ l) fs (d ∷ ds) = ap₂ _∷_ (add-comm s0 d ∙ add-zero d) (place-split l fs ds)
+place-split (false ∷ l) fs (d ∷ ds) = ap₂ _∷_ (field .add-comm s0 d ∙ field .add-zero d) (place-split l fs ds)
 
 -- others that are 0 are like none
 pub place-zeros : (l : List Bool) (fs : List Symbol) (k : ℕ) → place l fs (zeros k) ≡ place l fs []

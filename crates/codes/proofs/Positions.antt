@@ -12,7 +12,7 @@ use Rattle.symbols.specs.Column.{columnOf, one}
 use Rattle.symbols.proofs.Every.{law-below, number-discrete}
 use Rattle.codes.specs.Digits.{Digit, columns, digits}
 use Rattle.codes.specs.Projection.{size, width}
-use Rattle.codes.specs.Claims.{rows, Positions}
+use Rattle.codes.specs.Claims.{columnRows, Positions}
 use Rattle.codes.proofs.Digits.{pow-mul}
 
 -- a digit of a number
@@ -25,7 +25,7 @@ one-bit : (k n : ℕ) → one (hasBit k n) ≡ n / 2 ^ k % 2
 one-bit k n = law-below 2 number-discrete (λ x. one (eqb x 1)) (λ x. x) tt (n / 2 ^ k % 2) (mod-lt (n / 2 ^ k) (lit< tt))
 
 -- a row of a number's column
-row-at : (n r : ℕ) → r < 4 → getD (rows (columnOf n)) r 0 ≡ n / 2 ^ (3 - r) % 2
+row-at : (n r : ℕ) → r < 4 → getD (columnRows (columnOf n)) r 0 ≡ n / 2 ^ (3 - r) % 2
 row-at n zero h = one-bit 3 n
 row-at n (suc zero) h = one-bit 2 n
 row-at n (suc (suc zero)) h = one-bit 1 n

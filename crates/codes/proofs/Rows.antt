@@ -1,14 +1,16 @@
 -- What an answer says of the rows of refusals that stand before it. The layers above cite this file.
--- An accepted answer has passed every row; a refused one has the number of a row, or comes from what stands behind the rows.
+-- An answer behind rows that pass is the answer, and behind rows of which one is met it is the first one's number: so what is accepted wherever no row is
+-- met is refused exactly where one is, with its number.
 -- Rows may be split into two lists, and an answer's value may be put in another form before the rows or behind them.
 use Prim.Native.Nat.{ℕ}
-use mathlib.Core.Path.{_≡_, refl, ap}
+use mathlib.Core.Path.{_≡_, refl, sym, ap, _∙_}
 use mathlib.Core.Bool.{Bool, true, false, cond}
-use mathlib.Core.Logic.{_⊎_, inl, inr, ⊎-elim}
+use mathlib.Core.Logic.{_⊎_, inl, inr}
+use mathlib.Core.Option.{Option, none, some}
 use mathlib.Core.List.{List, [], _∷_, _++_}
 use native.Mathlib.Omega.{arith}
-use Rattle.codes.specs.Answer.{Answer, accepted, refused, mapAnswer, Row, unless}
-use Rattle.codes.specs.Claims.{Among}
+use Rattle.codes.specs.Answer.{Answer, accepted, refused, mapAnswer, Row, unless, firstMet, Passes, Refuses}
+use Rattle.codes.specs.Claims.{Among, numbers, ByTable}
 
 -- ---- accepted answers
 
@@ -24,26 +26,75 @@ accepted-row r a v e = go (r .met) refl e
     go true t e = let z : _≡_ {A = ℕ} 0 1 = cc in absurd (omega arith)
     go false t e = (t, e)
 
--- ---- refused answers
+-- ---- an answer by its table
 
--- the numbers of rows
-abbrev pub numbers : List Row → List ℕ
-numbers [] = []
-numbers (r ∷ rs) = r .number ∷ numbers rs
+-- what the first row that is met makes of an answer
+abbrev behind : {A : Type 0} → Option ℕ → Answer A → Answer A
+behind none a = a
+behind (some k) a = refused k
 
--- a refusal is a row's, or that of what stands behind the rows
-pub refused-by : {A : Type 0} (rs : List Row) (a : Answer A) (n : ℕ) → unless rs a ≡ refused n → Among n (numbers rs) ⊎ (a ≡ refused n)
-refused-by [] a n e = inr e
-refused-by (r ∷ rs) a n e = go (r .met) e (refused-by rs a n)
+unless-first : {A : Type 0} (rs : List Row) (a : Answer A) → unless rs a ≡ behind (firstMet rs) a
+unless-first [] a = refl
+unless-first (r ∷ rs) a = go (r .met) (unless-first rs a)
   where
-    go : (t : Bool) → cond t (refused (r .number)) (unless rs a) ≡ refused n → (unless rs a ≡ refused n → Among n (numbers rs) ⊎ (a ≡ refused n))
-        → ((n ≡ r .number) ⊎ Among n (numbers rs)) ⊎ (a ≡ refused n)
-    go true e rest = inl (inl (cc))
-    go false e rest = ⊎-elim (λ k. inl (inr k)) (λ k. inr k) (rest e)
+    go : (t : Bool) → unless rs a ≡ behind (firstMet rs) a → cond t (refused (r .number)) (unless rs a) ≡ behind (cond t (some (r .number)) (firstMet rs)) a
+    go true e = refl
+    go false e = e
 
--- the rows alone refuse a call that gives a value
-pub refused-by-rows : {A : Type 0} (rs : List Row) (v : A) (n : ℕ) → unless rs (accepted v) ≡ refused n → Among n (numbers rs)
-refused-by-rows rs v n e = ⊎-elim (λ k. k) (not-refused v n) (refused-by rs (accepted v) n e)
+pub unless-passes : {A : Type 0} (rs : List Row) (a : Answer A) → Passes rs → unless rs a ≡ a
+unless-passes rs a e = unless-first rs a ∙ rw e
+
+pub unless-refuses : {A : Type 0} (rs : List Row) (a : Answer A) (k : ℕ) → Refuses rs k → unless rs a ≡ refused k
+unless-refuses rs a k e = unless-first rs a ∙ rw e
+
+-- what is accepted wherever no row of a table is met is an answer by that table
+module _ {A : Type 0} (rs : List Row) (a : Answer A) (gives : Passes rs → (v : A) × (a ≡ accepted v)) where
+  only-refused : (n : ℕ) → unless rs a ≡ refused n → Refuses rs n
+  only-refused n e = go (firstMet rs) refl (sym (unless-first rs a) ∙ e)
+    where
+      go : (o : Option ℕ) → firstMet rs ≡ o → behind o a ≡ refused n → Refuses rs n
+      go none t e = let given = gives t in not-refused (given .0) n (sym (given .1) ∙ e)
+      go (some k) t e = let same : k ≡ n = cc in t ∙ ap some same
+
+  only-accepted : (v : A) → unless rs a ≡ accepted v → Passes rs
+  only-accepted v e = go (firstMet rs) refl (sym (unless-first rs a) ∙ e)
+    where
+      go : (o : Option ℕ) → firstMet rs ≡ o → behind o a ≡ accepted v → Passes rs
+      go none t e = t
+      go (some k) t e = not-refused v k (sym e)
+
+  pub by-table : {order : List ℕ} → numbers rs ≡ order → ByTable order rs (unless rs a)
+  by-table e =
+      record {
+        ordered = e;
+        refuses = λ n. (only-refused n, unless-refuses rs a n);
+        accepts = (λ e. only-accepted (e .0) (e .1), λ t. let given = gives t in (given .0, unless-passes rs a t ∙ given .1));
+      }
+
+-- a row of a table that passes is not met, and those behind it pass
+pub passes-first : (r : Row) (rs : List Row) → Passes (r ∷ rs) → (r .met ≡ false) × Passes rs
+passes-first r rs e = go (r .met) refl e
+  where
+    go : (t : Bool) → r .met ≡ t → cond t (some (r .number)) (firstMet rs) ≡ none → (r .met ≡ false) × Passes rs
+    go true t e = let z : _≡_ {A = ℕ} 0 1 = cc in absurd (omega arith)
+    go false t e = (t, e)
+
+pub passes-behind : (rs ss : List Row) → Passes (rs ++ ss) → Passes ss
+passes-behind [] ss e = e
+passes-behind (r ∷ rs) ss e = passes-behind rs ss (passes-first r (rs ++ ss) e .1)
+
+-- the number of a first row stands in the table
+pub first-among : (rs : List Row) (n : ℕ) → Refuses rs n → Among n (numbers rs)
+first-among [] n e = let z : _≡_ {A = ℕ} 0 1 = cc in absurd (omega arith)
+first-among (r ∷ rs) n e = go (r .met) e (first-among rs n)
+  where
+    go : (t : Bool) → cond t (some (r .number)) (firstMet rs) ≡ some n → (Refuses rs n → Among n (numbers rs)) → (n ≡ r .number) ⊎ Among n (numbers rs)
+    go true e rest = inl (cc)
+    go false e rest = inr (rest e)
+
+-- so a refusal is one of the table's numbers
+pub refused-among : {A : Type 0} {order : List ℕ} {rs : List Row} {a : Answer A} → ByTable order rs a → (n : ℕ) → a ≡ refused n → Among n order
+refused-among {rs = rs} by n e = rw (← by .ordered) (first-among rs n (by .refuses n .0 e))
 
 -- ---- rows of two tables, and answers in another form
 
@@ -51,6 +102,33 @@ refused-by-rows rs v n e = ⊎-elim (λ k. k) (not-refused v n) (refused-by rs (
 pub unless-append : {A : Type 0} (rs ss : List Row) (a : Answer A) → unless (rs ++ ss) a ≡ unless rs (unless ss a)
 unless-append [] ss a = refl
 unless-append (r ∷ rs) ss a = ap (cond (r .met) (refused (r .number))) (unless-append rs ss a)
+
+first-append : (rs ss : List Row) → Passes rs → firstMet (rs ++ ss) ≡ firstMet ss
+first-append [] ss e = refl
+first-append (r ∷ rs) ss e = go (r .met) e (first-append rs ss)
+  where
+    go : (t : Bool) → cond t (some (r .number)) (firstMet rs) ≡ none → (Passes rs → firstMet (rs ++ ss) ≡ firstMet ss)
+        → cond t (some (r .number)) (firstMet (rs ++ ss)) ≡ firstMet ss
+    go true e rest = let z : _≡_ {A = ℕ} 0 1 = cc in absurd (omega arith)
+    go false e rest = rest e
+
+pub passes-append : (rs ss : List Row) → Passes rs → Passes ss → Passes (rs ++ ss)
+passes-append rs ss e f = first-append rs ss e ∙ f
+
+pub refuses-behind : (rs ss : List Row) (k : ℕ) → Passes rs → Refuses ss k → Refuses (rs ++ ss) k
+refuses-behind rs ss k e f = first-append rs ss e ∙ f
+
+pub refuses-front : (rs ss : List Row) (k : ℕ) → Refuses rs k → Refuses (rs ++ ss) k
+refuses-front [] ss k e = let z : _≡_ {A = ℕ} 0 1 = cc in absurd (omega arith)
+refuses-front (r ∷ rs) ss k e = go (r .met) e (refuses-front rs ss k)
+  where
+    go : (t : Bool) → cond t (some (r .number)) (firstMet rs) ≡ some k → (Refuses rs k → Refuses (rs ++ ss) k)
+        → cond t (some (r .number)) (firstMet (rs ++ ss)) ≡ some k
+    go true e rest = e
+    go false e rest = rest e
+
+pub unless-behind : {A : Type 0} (rs ss : List Row) (a : Answer A) → Passes rs → unless (rs ++ ss) a ≡ unless ss a
+unless-behind rs ss a e = unless-append rs ss a ∙ unless-passes rs (unless ss a) e
 
 -- the rows stay as they are where an answer's value is put in another form
 pub unless-map : {A B : Type 0} (f : A → B) (rs : List Row) (a : Answer A) → unless rs (mapAnswer f a) ≡ mapAnswer f (unless rs a)

@@ -13,27 +13,34 @@ use lib.ListN.{length, getD}
 use lib.Pow.{pow-mono}
 use Rattle.symbols.specs.Symbol.{_⊻_}
 use Rattle.symbols.specs.Column.{Column, value, top, weight, columnOf}
-use Rattle.symbols.proofs.Symbols.{xor-last}
+use Rattle.symbols.proofs.Claims.{exclusive-or}
+use Rattle.codes.specs.declared.code.Code.{Code}
 use Rattle.codes.specs.Digits.{symbols, digits, numberOf}
 use Rattle.codes.specs.Vector.{scale}
 use Rattle.codes.specs.Projection.{Projection, wanted, size, width}
 use Rattle.codes.specs.Word.{word, topRow, distance}
+use Rattle.codes.specs.Codes.{projection}
 use Rattle.codes.specs.ContractsOfSearch.{entry, inverted, Known, Within, nothing, Sought, Far}
 use Rattle.codes.proofs.Vectors.{shaped, length-scale}
 use Rattle.codes.proofs.Digits.{symbols-fit, digits-again}
 use Rattle.codes.proofs.Distance.{Apart}
+use Rattle.codes.proofs.Codes.{width-le, systematic, apart}
 use Rattle.codes.proofs.Sums.{digits-add}
 use Rattle.codes.proofs.Walks.{shaped-at}
 use Rattle.codes.proofs.Flips.{syndrome-invert, topRow-invert, nearer-by, word-inverted, inverted-fits}
-use Rattle.codes.proofs.Differences.{Tabled, none-close, more-than-one}
+use Rattle.codes.proofs.Differences.{none-close}
+use Rattle.codes.proofs.Entries.{more-than-one}
 use Rattle.codes.proofs.Words.{length-word, same-length}
 
 -- what a code has to satisfy for the search to be right
 pub record Searchable (π : Projection) : Type 0 where
   pub apart : Apart π
   pub shape : shaped (π .rows) (π .matrix) ≡ true
-  pub tabled : Tabled π
   pub narrow : width π ≤ 40
+
+-- the four codes do
+pub searchable : (c : Code) → Searchable (projection c)
+searchable c = record { apart = apart c; shape = systematic c .shape; narrow = width-le c }
 
 -- an answer that is found, one that says that there is none, and one that is a word of the code's width
 pub sought-one : {P : ℕ → Type 0} (r : ℕ) → P r → r < nothing → Sought P r
@@ -48,7 +55,7 @@ sought-word code w = sought-one _ w (lt-of-lt-of-le (w .fits) (pow-mono (code .n
 -- where the syndrome is not zero and has no entry, no codeword is within one position
 pub far : (π : Projection) → Searchable π → (k s : ℕ) → s < 4 ^ π .rows → k ≤ 1 → (s ≡ 0 → ⊥) → entry π s ≡ 0 → Far π k s
 far π code k s h l n e x y ex zy d =
-    none-close π 1 (digits symbols (π .rows) s) (more-than-one π (code .tabled) s h n e) (word π x) (word π y) ex zy
+    none-close π 1 (digits symbols (π .rows) s) (more-than-one π s h n (code .shape) e) (word π x) (word π y) ex zy
     (length-word π x) (length-word π y) (omega arith)
 
 -- what is known of a word with bits of a column inverted
@@ -73,7 +80,7 @@ known-inverted {π} {p} {s} {off} {x} code known j q g hj hq eg =
           );
       tops =
           rw (known .tops, ew, topRow-invert j (columnOf q) (word π x) inside)
-          (xor-last (topRow (word π x)) (wanted (π .rule) p) (top (columnOf q)));
+          (exclusive-or .last (topRow (word π x)) (wanted (π .rule) p) (top (columnOf q)));
     }
 
 -- a word gets nearer to another by no more than the bits that are inverted

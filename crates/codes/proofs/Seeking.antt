@@ -14,7 +14,7 @@ use lib.Seq.{getD-take, take-take, take-all}
 use Rattle.symbols.specs.Symbol.{_⊻_, Symbol-discrete, symbolOf}
 use Rattle.symbols.specs.Column.{Column, value, parity, top, one, weight, columnOf}
 use Rattle.symbols.proofs.Every.{law-below, at-below, number-discrete}
-use Rattle.symbols.proofs.Symbols.{xor-self, xor-comm, unequal-xor}
+use Rattle.symbols.proofs.Claims.{exclusive-or}
 use Rattle.codes.specs.Digits.{symbols, numberOf}
 use Rattle.codes.specs.Vector.{scale}
 use Rattle.codes.specs.Projection.{Projection, wanted, size, width}
@@ -45,7 +45,7 @@ row-small r h = ltb→lt (8 / 2 ^ r) 16 (at-below 4 (λ r. ltb (8 / 2 ^ r) 16) t
 
 -- a column whose parity was compared with p, and is not that
 pub lacks-other : (a p : Bool) {q : Bool} → Bool·beq a p ≡ false → a ≡ q → p ⊻ q ≡ true
-lacks-other a p e g = rw (← g, xor-comm p a, ← unequal-xor a p, e)
+lacks-other a p e g = rw (← g, exclusive-or .comm p a, ← exclusive-or .unequal a p, e)
 
 -- the columns that lack a parity among the first, one column more
 lacks-last : (p : Bool) (cs : List Column) (j : ℕ) → j < length cs →
@@ -103,7 +103,7 @@ module _ {π : Projection} {p : Bool} {a : List ℕ} {i left k s : ℕ} {off : B
   -- a column that has the parity is passed
   pub seek-skip : parity (columnOf (getD a j 0)) ≡ p → Seeking π p a j left k s off x
   seek-skip e =
-      let even : p ⊻ parity (getD (word π x) j blank) ≡ false = rw (here, e) (xor-self p) in
+      let even : p ⊻ parity (getD (word π x) j blank) ≡ false = rw (here, e) (exclusive-or .self p) in
       record {
         known = seeking .known;
         ahead = record {
@@ -149,7 +149,7 @@ module _ {π : Projection} {p : Bool} {a : List ℕ} {i left k s : ℕ} {off : B
     seek-none none y w =
         let c = codeword-parts π p (word π y) (w .passes) in
         let differ : parity (getD (word π x) j blank) ⊻ parity (getD (word π y) j blank) ≡ true =
-        rw (parity-at p (word π y) j (c .parities) (omega (arith, column-inside, length-word π y)), xor-comm (parity (getD (word π x) j blank)) p) lacking in
+        rw (parity-at p (word π y) j (c .parities) (omega (arith, column-inside, length-word π y)), exclusive-or .comm (parity (getD (word π x) j blank)) p) lacking in
         let near = nearer j (word π x) (word π y) (same-length π x y) inside differ in
         let r = near .0 in
         none r (near .1) y

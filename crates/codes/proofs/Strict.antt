@@ -1,38 +1,32 @@
 -- Strict reading: whether a word is a codeword, by what the walk over its columns collects.
 -- The syndrome is zero just where its number is 0; all columns are even just where none is odd, and odd just where as many are odd as
 -- there are. So what the walk collects, and the number of columns, decide each part of the definition of a codeword.
-use mathlib.Core.Path.{_≡_, refl, sym, ap, _∙_}
+use mathlib.Core.Path.{_≡_, refl, sym, _∙_}
 use mathlib.Core.Bool.{Bool, true, false, _&&_, _||_, Bool·beq, false≢true}
 use mathlib.Core.List.{List, [], _∷_, map}
-use Prim.Native.Nat.{ℕ, zero, suc, _^_, _<_}
+use Prim.Native.Nat.{ℕ, suc, _^_, _<_}
 use native.Mathlib.Omega.{arith}
 use borrow.Author.Tests.{eq-eqb, ne-eqb}
 use lib.Dec.{eqb, eqb·suc-zero, eqb·suc-suc}
 use lib.ListN.{length}
 use Rattle.symbols.specs.Column.{Column, parity}
-use Rattle.codes.specs.Digits.{symbols, digits, numberOf}
-use Rattle.codes.specs.Vector.{zeros, isZeroV}
+use Rattle.codes.specs.Digits.{symbols, digits}
+use Rattle.codes.specs.Vector.{isZeroV}
 use Rattle.codes.specs.Projection.{Projection, wanted, count, size}
 use Rattle.codes.specs.Word.{syndromeOf, allParity, isCodeword}
 use Rattle.codes.specs.ContractsOfWalk.{odds, Walked}
 use Rattle.codes.proofs.Digits.{symbols-fit, number-again}
-use Rattle.codes.proofs.Vectors.{zeros-zero, zero-is-zeros}
+use Rattle.codes.proofs.Vectors.{zeros-zero}
 use Rattle.codes.proofs.Words.{wanted-even}
 use Rattle.codes.proofs.Walks.{odds-le}
-use Rattle.codes.proofs.Sums.{digits-zero}
-
-zeros-number : (r : ℕ) → numberOf symbols (zeros r) ≡ 0
-zeros-number zero = refl
-zeros-number (suc r) = omega (arith, zeros-number r)
+use Rattle.codes.proofs.Sums.{digits-zero, zero-number}
 
 -- a packed vector is zero just where its number is
 packed-zero : (r s : ℕ) → s < 4 ^ r → isZeroV (digits symbols r s) ≡ eqb s 0
 packed-zero r s h = go (isZeroV (digits symbols r s)) refl
   where
     go : (b : Bool) → isZeroV (digits symbols r s) ≡ b → b ≡ eqb s 0
-    go true e =
-        sym (eq-eqb s 0 (sym (number-again symbols symbols-fit r s h)
-        ∙ ap (numberOf symbols) (zero-is-zeros (digits symbols r s) e) ∙ zeros-number (length (digits symbols r s))))
+    go true e = sym (eq-eqb s 0 (sym (number-again symbols symbols-fit r s h) ∙ zero-number (digits symbols r s) e))
     go false e = sym (ne-eqb s 0 (λ (z : s ≡ 0). false≢true (sym e ∙ rw (z, digits-zero r) (zeros-zero r))))
 
 -- all columns are even, and all are odd, by the number of odd ones

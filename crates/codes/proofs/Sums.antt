@@ -2,17 +2,19 @@
 -- Where a base is a power of two, an operation that goes bit by bit goes digit by digit: it commutes with taking a number's quotient
 -- and its remainder by a power of two, so one digit of its result is what it makes of two digits, and that is a test over all digits.
 use mathlib.Core.Path.{_≡_, refl, sym, ap, ap₂, _∙_}
-use mathlib.Core.Bool.{_||_, Bool-discrete}
+use mathlib.Core.Bool.{true, _||_, Bool-discrete, and-eq-true-iff}
 use mathlib.Core.List.{List, [], _∷_}
 use Prim.Native.Nat.{ℕ, zero, suc, _*_, _/_, _%_, _^_}
 use native.Mathlib.Nat.{mod-lt, zero-div}
+use native.Mathlib.Omega.{arith}
 use lib.Bits.{bitXor, bitOr, xor-shr, xor-mod, or-shr, or-mod}
 use lib.Dec.{T}
-use Rattle.symbols.specs.Symbol.{Symbol-discrete, add, symbolOf}
+use Rattle.symbols.specs.Symbol.{Symbol, Symbol-discrete, isZero, add, symbolOf}
 use Rattle.symbols.specs.Column.{Column, column, Column-discrete, _⊕_}
+use Rattle.symbols.proofs.Claims.{field}
 use Rattle.symbols.proofs.Every.{below, passes, law-below-both}
-use Rattle.codes.specs.Digits.{Digit, symbols, columns, digits}
-use Rattle.codes.specs.Vector.{zeros, addV}
+use Rattle.codes.specs.Digits.{Digit, symbols, columns, digits, numberOf}
+use Rattle.codes.specs.Vector.{zeros, addV, isZeroV}
 use Rattle.codes.specs.Projection.{Projection, size}
 use Rattle.codes.specs.Word.{word, _⊞_}
 use Rattle.codes.proofs.Digits.{Fit, symbols-fit, columns-fit, pow-mul}
@@ -43,7 +45,7 @@ module _ {A : Type 0} (d : Digit A) (fit : Fit d) (w : ℕ) (power : d .base ≡
       sym (fit .modulo (op a b))
       ∙ ap (d .lowest) (rw power (bitwise .remainder a b w))
       ∙ law-below-both (d .base) same (λ a b. d .lowest (op a b)) (λ a b. f (d .lowest a) (d .lowest b)) test
-      (a % d .base) (b % d .base) (mod-lt a (fit .pos)) (mod-lt b (fit .pos))
+      (a % d .base) (b % d .base) (mod-lt a (fit .positive)) (mod-lt b (fit .positive))
       ∙ ap₂ f (fit .modulo a) (fit .modulo b)
 
   digits-op : (k a b : ℕ) → digits d k (op a b) ≡ zip f (digits d k a) (digits d k b)
@@ -58,6 +60,12 @@ module _ {A : Type 0} (d : Digit A) (fit : Fit d) (w : ℕ) (power : d .base ≡
 pub digits-zero : (r : ℕ) → digits symbols r 0 ≡ zeros r
 digits-zero zero = refl
 digits-zero (suc r) = ap₂ _∷_ (ap symbolOf (zero-div (4 ^ r))) (digits-zero r)
+
+pub zero-number : (x : List Symbol) → isZeroV x ≡ true → numberOf symbols x ≡ 0
+zero-number [] e = refl
+zero-number (x ∷ xs) e =
+    let both = and-eq-true-iff (isZero x) (isZeroV xs) .0 e in
+    rw (field .zero x (both .0)) (omega (arith, zero-number xs (both .1)))
 
 zip-add : (r a b : ℕ) → zip add (digits symbols r a) (digits symbols r b) ≡ addV (digits symbols r a) (digits symbols r b)
 zip-add zero a b = refl

@@ -9,9 +9,8 @@ use native.Mathlib.Omega.{arith}
 use borrow.Author.Tests.{eqb-true}
 use lib.Dec.{eqb}
 use lib.ListN.{length, length-replicate}
-use Rattle.symbols.specs.Symbol.{Symbol, s0, Symbol-discrete, isZero, add}
-use Rattle.symbols.proofs.Every.{symbols, _⊗_, law-where}
-use Rattle.symbols.proofs.Symbols.{add-assoc, add-comm, add-zero, add-self, add-mul}
+use Rattle.symbols.specs.Symbol.{Symbol, s0, isZero, add}
+use Rattle.symbols.proofs.Claims.{field}
 use Rattle.codes.specs.Vector.{zeros, addV, scale, isZeroV}
 use Rattle.codes.specs.Word.{syndrome}
 
@@ -19,13 +18,13 @@ pub addV-comm : (x y : List Symbol) → addV x y ≡ addV y x
 addV-comm [] [] = refl
 addV-comm [] (y ∷ ys) = refl
 addV-comm (x ∷ xs) [] = refl
-addV-comm (x ∷ xs) (y ∷ ys) = ap₂ _∷_ (add-comm x y) (addV-comm xs ys)
+addV-comm (x ∷ xs) (y ∷ ys) = ap₂ _∷_ (field .add-comm x y) (addV-comm xs ys)
 
 pub addV-assoc : (x y z : List Symbol) → addV (addV x y) z ≡ addV x (addV y z)
 addV-assoc [] y z = refl
 addV-assoc (x ∷ xs) [] z = refl
 addV-assoc (x ∷ xs) (y ∷ ys) [] = refl
-addV-assoc (x ∷ xs) (y ∷ ys) (z ∷ zs) = ap₂ _∷_ (add-assoc x y z) (addV-assoc xs ys zs)
+addV-assoc (x ∷ xs) (y ∷ ys) (z ∷ zs) = ap₂ _∷_ (field .add-assoc x y z) (addV-assoc xs ys zs)
 
 addV-swap : (a b c d : List Symbol) → addV (addV a b) (addV c d) ≡ addV (addV a c) (addV b d)
 addV-swap a b c d =
@@ -33,12 +32,9 @@ addV-swap a b c d =
 
 pub scale-add : (a b : Symbol) (h : List Symbol) → scale (add a b) h ≡ addV (scale a h) (scale b h)
 scale-add a b [] = refl
-scale-add a b (x ∷ xs) = ap₂ _∷_ (add-mul a b x) (scale-add a b xs)
+scale-add a b (x ∷ xs) = ap₂ _∷_ (field .add-mul a b x) (scale-add a b xs)
 
 -- zero vectors: all of their symbols are 0
-zero-symbol : (x : Symbol) → isZero x ≡ true → x ≡ s0
-zero-symbol x e = law-where symbols Symbol-discrete isZero (λ x. x) (λ x. s0) tt x e
-
 pub zeros-zero : (n : ℕ) → isZeroV (zeros n) ≡ true
 zeros-zero zero = refl
 zeros-zero (suc n) = zeros-zero n
@@ -49,13 +45,7 @@ add-zero-vector [] y e = e
 add-zero-vector (x ∷ xs) [] e = refl
 add-zero-vector (x ∷ xs) (y ∷ ys) e =
     let both = and-eq-true-iff (isZero y) (isZeroV ys) .0 e in
-    rw (zero-symbol y (both .0), add-zero x, add-zero-vector xs ys (both .1))
-
-pub zero-is-zeros : (x : List Symbol) → isZeroV x ≡ true → x ≡ zeros (length x)
-zero-is-zeros [] e = refl
-zero-is-zeros (x ∷ xs) e =
-    let both = and-eq-true-iff (isZero x) (isZeroV xs) .0 e in
-    ap₂ _∷_ (zero-symbol x (both .0)) (zero-is-zeros xs (both .1))
+    rw (field .zero y (both .0), field .add-zero x, add-zero-vector xs ys (both .1))
 
 addV-zeros : (n : ℕ) → addV (zeros n) (zeros n) ≡ zeros n
 addV-zeros zero = refl
@@ -64,7 +54,7 @@ addV-zeros (suc n) = rw (addV-zeros n)
 -- a vector added to itself is zero, and two vectors of one length whose sum is zero are equal
 pub addV-self : (x : List Symbol) → isZeroV (addV x x) ≡ true
 addV-self [] = refl
-addV-self (x ∷ xs) = ap₂ _&&_ (ap isZero (add-self x)) (addV-self xs)
+addV-self (x ∷ xs) = ap₂ _&&_ (ap isZero (field .add-self x)) (addV-self xs)
 
 pub zero-sum-same : (x y : List Symbol) → length x ≡ length y → isZeroV (addV x y) ≡ true → x ≡ y
 zero-sum-same [] [] e z = refl
@@ -72,9 +62,7 @@ zero-sum-same [] (y ∷ ys) e z = absurd (omega arith)
 zero-sum-same (x ∷ xs) [] e z = absurd (omega arith)
 zero-sum-same (x ∷ xs) (y ∷ ys) e z =
     let both = and-eq-true-iff (isZero (add x y)) (isZeroV (addV xs ys)) .0 z in
-    ap₂ _∷_
-    (law-where (symbols ⊗ symbols) Symbol-discrete (λ (x, y). isZero (add x y)) (λ (x, y). x) (λ (x, y). y) tt (x, y) (both .0))
-    (zero-sum-same xs ys (omega arith) (both .1))
+    ap₂ _∷_ (field .negative x y (field .zero (add x y) (both .0))) (zero-sum-same xs ys (omega arith) (both .1))
 
 -- the syndrome of a sum of values
 pub syndrome-add : (r : ℕ) (H : List (List Symbol)) (u v : List Symbol) → length u ≡ length v →

@@ -14,8 +14,7 @@ use lib.ListN.{length, getD, take, drop, drop-of-length-le, List·getD-map, leng
 use lib.Seq.{drop-cons, drop-length, getD-take, length-take-le}
 use Rattle.symbols.specs.Symbol.{Symbol}
 use Rattle.symbols.specs.Column.{Column, value, parity, top, one, columnOf}
-use Rattle.symbols.proofs.Symbols.{xor-comm, unequal-xor}
-use Rattle.symbols.proofs.Columns.{one-le}
+use Rattle.symbols.proofs.Claims.{exclusive-or, numbers}
 use Rattle.codes.specs.Digits.{symbols, numberOf}
 use Rattle.codes.specs.Vector.{scale}
 use Rattle.codes.specs.Projection.{Projection, size}
@@ -39,7 +38,7 @@ walked-more r h H c cs s t n g eh eg w =
       syndromes =
           rw (digits-add r s g, w .syndromes, eg, digits-again symbols symbols-fit r (scale (value c) h) (length-scale (value c) h ∙ eh))
           (addV-comm (syndrome r H (map value cs)) (scale (value c) h));
-      tops = rw (unequal-xor t (top c), w .tops) (xor-comm (topRow cs) (top c));
+      tops = rw (exclusive-or .unequal t (top c), w .tops) (exclusive-or .comm (topRow cs) (top c));
       odd = omega (arith, w .odd, count-cons (parity c) (map parity cs));
     }
 
@@ -77,4 +76,4 @@ module _ (π : Projection) (a : List ℕ) (room : size π ≤ length a) where
 -- no more columns are odd than there are
 pub odds-le : (cs : List Column) → odds cs ≤ length cs
 odds-le [] = omega arith
-odds-le (c ∷ cs) = omega (arith, odds-le cs, one-le (parity c), count-cons (parity c) (map parity cs))
+odds-le (c ∷ cs) = omega (arith, odds-le cs, numbers .bits .small (parity c), count-cons (parity c) (map parity cs))

@@ -10,8 +10,7 @@ use lib.ListN.{length, length-map}
 use Rattle.symbols.specs.Symbol.{_⊻_}
 use Rattle.symbols.specs.Column.{Column, value, parity, top, one, _⊕_}
 use Rattle.symbols.proofs.Every.{bits, _⊗_, law, law-where}
-use Rattle.symbols.proofs.Symbols.{xor-swap}
-use Rattle.symbols.proofs.Columns.{value-add, parity-add, top-add}
+use Rattle.symbols.proofs.Claims.{exclusive-or, columns-add}
 use Rattle.codes.specs.Digits.{columns}
 use Rattle.codes.specs.Vector.{addV, isZeroV}
 use Rattle.codes.specs.Projection.{Projection, TopRule, ruleO, ruleE, wanted, count, size}
@@ -34,7 +33,7 @@ values-sum : (a b : List Column) → length a ≡ length b → map value (a ⊞ 
 values-sum [] [] e = refl
 values-sum [] (b ∷ ys) e = absurd (omega arith)
 values-sum (a ∷ xs) [] e = absurd (omega arith)
-values-sum (a ∷ xs) (b ∷ ys) e = ap₂ _∷_ (value-add a b) (values-sum xs ys (omega arith))
+values-sum (a ∷ xs) (b ∷ ys) e = ap₂ _∷_ (columns-add .values a b) (values-sum xs ys (omega arith))
 
 pub syndrome-sum : (π : Projection) (a b : List Column) → length a ≡ length b →
     syndromeOf π (a ⊞ b) ≡ addV (syndromeOf π a) (syndromeOf π b)
@@ -46,7 +45,7 @@ topRow-sum [] [] e = refl
 topRow-sum [] (b ∷ ys) e = absurd (omega arith)
 topRow-sum (a ∷ xs) [] e = absurd (omega arith)
 topRow-sum (a ∷ xs) (b ∷ ys) e =
-    rw (top-add a b, topRow-sum xs ys (omega arith)) (xor-swap (top a) (top b) (topRow xs) (topRow ys))
+    rw (columns-add .tops a b, topRow-sum xs ys (omega arith)) (exclusive-or .middle (top a) (top b) (topRow xs) (topRow ys))
 
 -- two bits that a test finds equal, and the test of equal bits
 pub beq-true : (a b : Bool) → Bool·beq a b ≡ true → a ≡ b
@@ -70,7 +69,7 @@ parity-sum p q [] b s t = refl
 parity-sum p q (a ∷ xs) [] s t = refl
 parity-sum p q (a ∷ xs) (b ∷ ys) s t =
     parity-cons (p ⊻ q) (a ⊕ b) (xs ⊞ ys)
-    (rw (parity-add a b, parity-first p a xs s, parity-first q b ys t))
+    (rw (columns-add .parities a b, parity-first p a xs s, parity-first q b ys t))
     (parity-sum p q xs ys (parity-rest p a xs s) (parity-rest q b ys t))
 
 -- the number of trues in a list, by its first

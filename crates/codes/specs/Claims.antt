@@ -3,31 +3,32 @@
 -- of the definitions, and so, by the contracts, of the functions.
 use mathlib.Core.Path.{_≡_}
 use mathlib.Core.Bool.{true}
-use mathlib.Core.Logic.{_⊎_}
-use mathlib.Core.List.{List, [], _∷_}
+use mathlib.Core.Logic.{_⊎_, _↔_}
+use mathlib.Core.List.{List, [], _∷_, map}
 use Prim.Native.Nat.{ℕ, _+_, _-_, _*_, _^_, _≤_, _<_}
 use lib.ListN.{getD}
 use Rattle.symbols.specs.Column.{Column, column, columnOf, one}
 use Rattle.codes.specs.declared.code.Code.{Code}
-use Rattle.codes.specs.Answer.{Answer, accepted, refused}
-use Rattle.codes.specs.Projection.{Projection, size, width, messageBits}
+use Rattle.codes.specs.Answer.{Answer, accepted, refused, Row, Passes, Refuses}
+use Rattle.codes.specs.Projection.{ruleO, ruleE, Projection, size, width, messageBits}
 use Rattle.codes.specs.Word.{word, bitAt, isCodeword, _⊞_, distance}
 use Rattle.codes.specs.Message.{encode, decode}
-use Rattle.codes.specs.Correction.{wrong, ones, Near}
-use Rattle.codes.specs.Codes.{projection, encoding, decoding, correcting, under}
+use Rattle.codes.specs.Correction.{wrong, ones, Near, correctionOf}
+use Rattle.codes.specs.Codes.{codes, projection, codeOf, stepLimit, correctionValues, encoding, decoding, correcting, under}
+use Rattle.codes.specs.Codes.{unknownCode, messageTooLarge, wordTooWide, notACodeword, noneNear}
 use Rattle.codes.specs.Starred.{starredWords, Each}
 
 -- ---- words
 
 -- the rows of a column, row 0 first
-abbrev pub rows : Column → List ℕ
-rows (column a b c d) = one a ∷ one b ∷ one c ∷ one d ∷ []
+abbrev pub columnRows : Column → List ℕ
+columnRows (column a b c d) = one a ∷ one b ∷ one c ∷ one d ∷ []
 
 -- 'Position 4(c−1)+r is row r (0 to 3) of column c'
 abbrev pub Positions : Type 0
 Positions =
     (π : Projection) (n c r : ℕ) → 1 ≤ c → c ≤ size π → r < 4 →
-    bitAt π n (4 * (c - 1) + r) ≡ getD (rows (getD (word π n) (c - 1) (columnOf 0))) r 0
+    bitAt π n (4 * (c - 1) + r) ≡ getD (columnRows (getD (word π n) (c - 1) (columnOf 0))) r 0
 
 -- ---- demand 2
 
@@ -56,6 +57,12 @@ DecodesCodewords =
     (IsCodeword c x → decoding (projection c) x ≡ accepted (decode (projection c) x ∷ []))
     × ((values : List ℕ) → decoding (projection c) x ≡ accepted values → IsCodeword c x)
 
+-- the same of the calls, whatever their numbers: writing a message gives a word exactly where strict reading of the word gives the message
+abbrev pub CallsRoundTrip : Type 0
+CallsRoundTrip =
+    (code message word : ℕ) →
+    (under code (λ π. encoding π message) ≡ accepted (word ∷ []) ↔ under code (λ π. decoding π word) ≡ accepted (message ∷ []))
+
 -- the sum of two codewords of one code is a codeword
 abbrev pub SumOfCodewords : Type 0
 SumOfCodewords =
@@ -80,10 +87,9 @@ EightIsFar =
 abbrev pub CorrectsNear : Type 0
 CorrectsNear =
     (c : Code) (w m : ℕ) → w < 2 ^ width (projection c) → m < 2 ^ width (projection c) →
-    ((x : ℕ) → Near (projection c) w m x →
-    correcting (projection c) w m ≡ accepted (x ∷ decode (projection c) x ∷ wrong (projection c) w m x ∷ ones (projection c) m ∷ []))
+    ((x : ℕ) → Near (projection c) w m x → correcting (projection c) w m ≡ accepted (correctionValues (correctionOf (projection c) w m x)))
     × ((values : List ℕ) → correcting (projection c) w m ≡ accepted values →
-    (x : ℕ) × Near (projection c) w m x × (values ≡ x ∷ decode (projection c) x ∷ wrong (projection c) w m x ∷ ones (projection c) m ∷ []))
+    (x : ℕ) × Near (projection c) w m x × (values ≡ correctionValues (correctionOf (projection c) w m x)))
 
 -- 'no near codeword': refusal 5, exactly there
 abbrev pub RefusesFar : Type 0
@@ -96,18 +102,73 @@ RefusesFar =
 abbrev pub Starred : Type 0
 Starred = Each starredWords
 
--- ---- the word calls' part of demand 1
+-- ---- refusals, for the word calls' part of demand 1 and the trace calls'
 
 -- a number stands in a list
 abbrev pub Among : ℕ → List ℕ → Type 0
 Among n [] = ⊥
 Among n (x ∷ xs) = (n ≡ x) ⊎ Among n xs
 
-abbrev pub RefusedBy : {A : Type 0} → List ℕ → Answer A → Type 0
-RefusedBy numbers a = (n : ℕ) → a ≡ refused n → Among n numbers
+-- the numbers of a table's rows
+abbrev pub numbers : List Row → List ℕ
+numbers [] = []
+numbers (r ∷ rs) = r .number ∷ numbers rs
 
--- 'Unfit input gets one of the thirteen refusal numbers of document 01': those that its table gives each word call
+-- an answer by a table whose rows have these numbers, in this order. Document 01's stand so that 'The smallest number that applies is returned,
+-- alone, but 5 on a read is tried only after all others pass'
+pub record ByTable {A : Type 0} (order : List ℕ) (rows : List Row) (a : Answer A) : Type 0 where
+  pub ordered : numbers rows ≡ order
+  -- refused with a number exactly where the first row that is met has it
+  pub refuses : (n : ℕ) → (a ≡ refused n ↔ Refuses rows n)
+  -- accepted exactly where no row is met
+  pub accepts : ((v : A) × (a ≡ accepted v)) ↔ Passes rows
+
+-- the numbers that document 01's table gives each word call, and the call's rows, under the code that a number names
+abbrev pub encodingNumbers : List ℕ
+encodingNumbers = 1 ∷ 2 ∷ []
+
+abbrev pub encodingRows : ℕ → ℕ → List Row
+encodingRows code message = unknownCode code ∷ messageTooLarge (projection (codeOf code)) message ∷ []
+
+abbrev pub decodingNumbers : List ℕ
+decodingNumbers = 1 ∷ 3 ∷ 4 ∷ []
+
+abbrev pub decodingRows : ℕ → ℕ → List Row
+decodingRows code word = unknownCode code ∷ wordTooWide (projection (codeOf code)) word ∷ notACodeword (projection (codeOf code)) word ∷ []
+
+abbrev pub correctingNumbers : List ℕ
+correctingNumbers = 1 ∷ 3 ∷ 3 ∷ 5 ∷ []
+
+abbrev pub correctingRows : ℕ → ℕ → ℕ → List Row
+correctingRows code word marks =
+    unknownCode code
+    ∷ wordTooWide (projection (codeOf code)) word
+    ∷ wordTooWide (projection (codeOf code)) marks
+    ∷ noneNear (projection (codeOf code)) word marks
+    ∷ []
+
+-- 'Unfit input gets one of the thirteen refusal numbers of document 01': those that its table gives each word call, each exactly where it is met
 pub record WordCallsRefuse : Type 0 where
-  pub encodings : (code message : ℕ) → RefusedBy (1 ∷ 2 ∷ []) (under code (λ π. encoding π message))
-  pub decodings : (code word : ℕ) → RefusedBy (1 ∷ 3 ∷ 4 ∷ []) (under code (λ π. decoding π word))
-  pub corrections : (code word marks : ℕ) → RefusedBy (1 ∷ 3 ∷ 5 ∷ []) (under code (λ π. correcting π word marks))
+  pub encodings : (code message : ℕ) → ByTable encodingNumbers (encodingRows code message) (under code (λ π. encoding π message))
+  pub decodings : (code word : ℕ) → ByTable decodingNumbers (decodingRows code word) (under code (λ π. decoding π word))
+  pub corrections : (code word marks : ℕ) → ByTable correctingNumbers (correctingRows code word marks) (under code (λ π. correcting π word marks))
+
+-- when each of these rows is met, in the words of document 01's table
+pub record WordRowsMean : Type 0 where
+  -- 'code not 1 to 4'
+  pub unknown : (code : ℕ) → (unknownCode code .met ≡ true ↔ ((1 ≤ code) × (code ≤ 4) → ⊥))
+  -- 'message over 19 or 22 bits'
+  pub too-large : (c : Code) (message : ℕ) → (messageTooLarge (projection c) message .met ≡ true ↔ 2 ^ messageBits (projection c) ≤ message)
+  -- 'word or marks have a bit above the width'
+  pub too-wide : (c : Code) (word : ℕ) → (wordTooWide (projection c) word .met ≡ true ↔ 2 ^ width (projection c) ≤ word)
+  -- 'not a codeword'
+  pub no-codeword : (c : Code) (word : ℕ) → word < 2 ^ width (projection c) →
+      (notACodeword (projection c) word .met ≡ true ↔ (IsCodeword c word → ⊥))
+  -- 'no near codeword'
+  pub none-near : (c : Code) (word marks : ℕ) →
+      (noneNear (projection c) word marks .met ≡ true ↔ ((x : ℕ) → Near (projection c) word marks x → ⊥))
+  -- 'Code 1 is 36 O, 2 is 36 E, 3 is 40 O, 4 is 40 E'; 'A message has 19 or 22 bits'; 'The step is below 128 (codes 1, 2) or 1,024 (3, 4)'
+  pub rules : map (λ c. projection c .rule) codes ≡ ruleO ∷ ruleE ∷ ruleO ∷ ruleE ∷ []
+  pub message-sizes : map (λ c. messageBits (projection c)) codes ≡ 19 ∷ 19 ∷ 22 ∷ 22 ∷ []
+  pub widths : map (λ c. width (projection c)) codes ≡ 36 ∷ 36 ∷ 40 ∷ 40 ∷ []
+  pub step-limits : map (λ c. stepLimit (projection c)) codes ≡ 128 ∷ 128 ∷ 1024 ∷ 1024 ∷ []

@@ -18,7 +18,7 @@ use Rattle.codes.specs.Answer.{Answer, accepted, refused, Row, unless}
 use Rattle.codes.specs.Projection.{Projection, ruleO, ruleE, nine, ten, width, messageBits}
 use Rattle.codes.specs.Word.{word, isCodeword}
 use Rattle.codes.specs.Message.{encode, decode}
-use Rattle.codes.specs.Correction.{correct}
+use Rattle.codes.specs.Correction.{correct, isFar}
 
 abbrev pub projection : Code → Projection
 projection O36 = nine ruleO
@@ -85,6 +85,9 @@ wordTooWide π w = record { number = 3; met = leb (2 ^ width π) w }
 
 abbrev pub notACodeword : Projection → ℕ → Row
 notACodeword π w = record { number = 4; met = not (isCodeword π (word π w)) }
+
+abbrev pub noneNear : Projection → ℕ → ℕ → Row
+noneNear π w m = record { number = 5; met = isFar (correct π w m) }
 
 -- writing, strict reading and mending under a code: encoding, decoding and correcting
 abbrev pub encoding : Projection → ℕ → Answer (List ℕ)

@@ -1,7 +1,7 @@
 -- Correction, that is decoding of errors and erasures: document 01's 'Mending'. Marks are a set of positions, given as a word whose ones
 -- are those positions. The search below is never run: it says what is right.
 use mathlib.Core.Path.{_≡_}
-use mathlib.Core.Bool.{Bool, true, not, cond, _&&_}
+use mathlib.Core.Bool.{Bool, true, false, not, cond, _&&_}
 use mathlib.Core.List.{List, [], _∷_}
 use mathlib.Core.Option.{Option, none, some}
 use Prim.Native.Nat.{ℕ, zero, suc, _+_, _*_, _^_, _<_}
@@ -10,7 +10,7 @@ use Rattle.symbols.specs.Column.{Column, column, one}
 use Rattle.codes.specs.declared.answer.Correction.{Correction}
 use Rattle.codes.specs.Projection.{Projection, width, messageBits}
 use Rattle.codes.specs.Word.{word, isCodeword, _⊞_, weightOf}
-use Rattle.codes.specs.Message.{encode}
+use Rattle.codes.specs.Message.{encode, decode}
 
 -- the number of a word's ones outside the marks
 abbrev pub outsideIn : Column → Column → ℕ
@@ -39,15 +39,20 @@ pub record Near (π : Projection) (w m x : ℕ) : Type 0 where
   pub codeword : isCodeword π (word π x) ≡ true
   pub near : isNear π w m x ≡ true
 
--- 'The answer is the codeword, its message, wrong and the number of marks': that of a message's codeword
+-- 'The answer is the codeword, its message, wrong and the number of marks'
 abbrev pub correctionOf : Projection → ℕ → ℕ → ℕ → Correction
-correctionOf π w m n = record { codeword = encode π n; message = n; wrong = wrong π w m (encode π n); marks = ones π m }
+correctionOf π w m x = record { codeword = x; message = decode π x; wrong = wrong π w m x; marks = ones π m }
 
 -- the first of n messages from k on whose codeword is near
 unfoldable pub nearFrom : Projection → ℕ → ℕ → ℕ → ℕ → Option Correction
 nearFrom π w m zero k = none
-nearFrom π w m (suc n) k = cond (isNear π w m (encode π k)) (some (correctionOf π w m k)) (nearFrom π w m n (suc k))
+nearFrom π w m (suc n) k = cond (isNear π w m (encode π k)) (some (correctionOf π w m (encode π k))) (nearFrom π w m n (suc k))
 
 -- mending: a search through all codewords
 abbrev pub correct : Projection → ℕ → ℕ → Option Correction
 correct π w m = nearFrom π w m (2 ^ messageBits π) 0
+
+-- 'no near codeword': mending finds nothing
+abbrev pub isFar : Option Correction → Bool
+isFar (some c) = false
+isFar none = true

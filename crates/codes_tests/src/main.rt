@@ -1,4 +1,4 @@
-// Writing and strict reading, tried: document 01's words that are no theorems, and messages there and back.
+// Writing and strict reading, tried: document 01's words that are no theorems, the words of each free column, and messages there and back.
 use codes::Decoded;
 use codes::Encoded;
 use libc::STDOUT_FILENO;
@@ -15,6 +15,11 @@ fn named(name: &[u8], n: u64) {
     io::print_decimal(STDOUT_FILENO, n);
 }
 
+// The columns of a code's words, a digit each.
+fn columns(code: u64) -> usize {
+    if code <= 2 { 9 } else { 10 }
+}
+
 // An answer on a line: the word in hexadecimal, or the refusal.
 fn write(code: u64, message: u64) {
     named(b"code ", code);
@@ -22,18 +27,30 @@ fn write(code: u64, message: u64) {
     match codes::encode(code, message) {
         Encoded::Word(w) => {
             text(b": ");
-            io::print_hex(STDOUT_FILENO, w, 9);
+            io::print_hex(STDOUT_FILENO, w, columns(code));
         }
         Encoded::Refused(r) => named(b": refused ", r.number()),
     }
     text(b"\n");
 }
 
+// Writes each message that has a value in one free column and zeros elsewhere, in column order. The free columns' bits stand above the
+// top row's.
+fn write_free(code: u64, value: u64, tops: u64, columns: u64)
+    requires { ⌜ (tops ≤ 9) × (columns ≤ 6) ⌝ }
+{
+    let mut left = columns;
+    while 0 < left {
+        left -= 1;
+        write(code, value << (tops + 2 * left));
+    }
+}
+
 // A strict reading on a line: the message, or the refusal.
 fn read(code: u64, word: u64) {
     named(b"code ", code);
     text(b" reads ");
-    io::print_hex(STDOUT_FILENO, word, 9);
+    io::print_hex(STDOUT_FILENO, word, columns(code));
     match codes::decode(code, word) {
         Decoded::Message(m) => named(b": ", m),
         Decoded::Refused(r) => named(b": refused ", r.number()),
@@ -92,8 +109,14 @@ fn main() {
     write(0, 0);
     write(5, 0);
     write(1, 18446744073709551615);
+    write_free(1, 1, 8, 5);
+    write_free(2, 2, 8, 5);
+    write_free(3, 1, 9, 6);
+    write_free(4, 3, 9, 6);
     read(1, 0x777777778);
     read(2, 0x777777778);
+    read(1, 0xF00000000);
+    read(3, 0xF000000000);
     read(1, 0x1000000000);
     read(3, 0x10000000000);
     read(0, 0);

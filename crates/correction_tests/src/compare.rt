@@ -1,4 +1,6 @@
-// The library's answers, compared with what the search found.
+// The library's answers, compared with what the search found. An outcome says which answer was given where it is the right one, and
+// otherwise that it is another.
+use crate::codewords::codeword;
 use crate::lists::ALL;
 use crate::lists::LISTS;
 use crate::lists::Trial;
@@ -10,22 +12,68 @@ use crate::search::WORDS;
 use crate::search::counted;
 use crate::slots::Slot;
 use crate::words::READINGS;
-use crate::words::codeword;
 use crate::words::ones;
+use crate::words::sum;
 use crate::words::wrong;
 use codes::Corrected;
+use codes::Decoded;
 use trace::ReadAnswer;
 ghost use Prim.Native.Nat.{_≤_};
+ghost use lib.ListN.{length};
 
-// Whether `correct` gives what the search found.
-fn correct_agrees(code: u64, word: u64, marks: u64, near: u64, kept: u64) -> bool {
+// The outcome of an answer that is not the right one: no sum, refusal or group has this number.
+pub(crate) const DISAGREES: u64 = 99;
+
+// The outcome of a right refusal of a word: no sum up to 7 has this number.
+pub(crate) const REFUSED: u64 = 8;
+
+// What `correct` and `decode` give for each word.
+pub(crate) struct Outcomes {
+    pub corrected: [u64; WORDS],
+    pub decoded: [u64; WORDS],
+}
+
+// The outcome of an answer whose number should be `due`.
+pub(crate) fn outcome(answer: u64, due: u64) -> u64 {
+    if answer == due { due } else { DISAGREES }
+}
+
+// The outcome of `correct`: the sum of the near codeword that the search found.
+fn correct_outcome(code: u64, word: u64, marks: u64, near: u64, kept: u64) -> u64 {
     match codes::correct(code, word, marks) {
-        Corrected::Near(c) => near == 1
-            && c.message == kept
-            && c.codeword == codeword(code, kept)
-            && c.wrong == wrong(c.codeword, word, marks)
-            && c.marks == ones(marks),
-        Corrected::Refused(r) => near == 0 && r.number() == 5,
+        Corrected::Near(c) => {
+            let agrees = near == 1
+                && c.message == kept
+                && c.codeword == codeword(code, kept)
+                && c.wrong == wrong(c.codeword, word, marks)
+                && c.marks == ones(marks);
+            if agrees {
+                sum(c.codeword, word, marks)
+            } else {
+                DISAGREES
+            }
+        }
+        Corrected::Refused(r) => if near == 0 && r.number() == 5 {
+            REFUSED
+        } else {
+            DISAGREES
+        },
+    }
+}
+
+// The outcome of `decode`: 0 where the search found the message's codeword equal to the word.
+fn decode_outcome(code: u64, word: u64, equal: u64) -> u64 {
+    match codes::decode(code, word) {
+        Decoded::Message(m) => if equal != 0 && m == equal - 1 {
+            0
+        } else {
+            DISAGREES
+        },
+        Decoded::Refused(r) => if equal == 0 && r.number() == 4 {
+            REFUSED
+        } else {
+            DISAGREES
+        },
     }
 }
 
@@ -46,36 +94,50 @@ fn read_agrees(answer: ReadAnswer, code: u64, slot: Slot, near: u64, kept: u64) 
     }
 }
 
-// How often `correct` says something else than the search.
-pub(crate) fn disagreements_of_correct(
+// The outcomes of `correct` and `decode` for each word.
+pub(crate) fn word_outcomes(
     code: u64,
     words: &[u64; WORDS],
     marks: &[u64; WORDS],
     found: Found,
-) -> u64
-    ensures { λ r. ⌜ r ≤ 104 ⌝ }
-{
-    let mut count: u64 = 0;
+) -> Outcomes {
+    let mut corrected = [0u64; WORDS];
+    let mut decoded = [0u64; WORDS];
     let mut j: usize = 0;
     while j < WORDS {
-        let agrees = correct_agrees(code, words[j], marks[j], found.near[j], found.kept[j]);
-        count = count + counted(!agrees);
+        corrected[j] = correct_outcome(code, words[j], marks[j], found.near[j], found.kept[j]);
+        decoded[j] = decode_outcome(code, words[j], found.equal[j]);
         j += 1;
     }
-    count
+    Outcomes {
+        corrected: corrected,
+        decoded: decoded,
+    }
 }
 
-// How often a read of a slot says something else than the search.
-pub(crate) fn disagreements_of_reads(code: u64, trials: [Trial; LISTS], found: Found) -> u64
-    ensures { λ r. ⌜ r ≤ 52 ⌝ }
-{
-    let mut count: u64 = 0;
+// The outcome of a read of each slot: the slot's group.
+pub(crate) fn read_outcomes(code: u64, trials: [Trial; LISTS], found: Found) -> [u64; ALL] {
+    let mut outcomes = [0u64; ALL];
     let mut j: usize = 0;
     while j < ALL {
         let near = found.near[SAMPLES + j];
         let kept = found.kept[SAMPLES + j];
-        let agrees = read_agrees(read(trials, j), code, slot(trials, j), near, kept);
-        count = count + counted(!agrees);
+        let slot = slot(trials, j);
+        let agrees = read_agrees(read(trials, j), code, slot, near, kept);
+        outcomes[j] = if agrees { slot.group(code) } else { DISAGREES };
+        j += 1;
+    }
+    outcomes
+}
+
+// How many of the numbers are a certain one.
+pub(crate) fn count(numbers: &[u64], wanted: u64) -> u64
+    ensures { λ r. ⌜ r ≤ length (now (numbers .entry)) ⌝ }
+{
+    let mut count: u64 = 0;
+    let mut j: usize = 0;
+    while j < numbers.len() {
+        count = count + counted(numbers[j] == wanted);
         j += 1;
     }
     count

@@ -1,11 +1,12 @@
 // Random lists of trace calls, each on a trace of its own: kind, slot and numbers of every call are drawn. Slots, steps, readings and
-// positions are drawn beyond their limits too, and blank slots are flipped and marked, so that refused calls stand anywhere.
+// positions are drawn beyond their limits too, and blank slots are flipped and marked, so that refused calls stand anywhere. Each call's
+// answer is compared with what it should be.
+use crate::compare::outcome;
 use crate::draws::about;
 use crate::draws::below;
 use crate::draws::draw;
 use crate::samples::SAMPLES;
 use crate::search::WORDS;
-use crate::search::counted;
 use crate::slots::Call;
 use crate::slots::Slot;
 use crate::words::READINGS;
@@ -15,10 +16,12 @@ use trace::Done;
 use trace::ReadAnswer;
 ghost use Prim.Native.Nat.{_<_};
 
-// The lists of a code, and the calls of a list.
+// The lists of a code, the calls of a list, and those of all lists.
 pub(crate) const LISTS: usize = 4;
 
-const CALLS: u64 = 400;
+const CALLS: usize = 400;
+
+pub(crate) const ALL_CALLS: usize = LISTS * CALLS;
 
 // With this seed the lists of each code leave slots with every sum from 0 to 10, and some that are read as another message.
 const SEED: u64 = 135;
@@ -60,15 +63,31 @@ fn make_call(b: &mut [u8; BYTES], slot: u64, call: Call) -> Done {
     }
 }
 
-// Makes a trace and the calls of a list.
-fn run(code: u64, list: u64) -> Trial
+// The number that a call answers: 0 where it is accepted, otherwise the refusal's.
+fn number(answer: Done) -> u64 {
+    match answer {
+        Done::Accepted => 0,
+        Done::Refused(r) => r.number(),
+    }
+}
+
+// What a call should answer: refusal 9, or what the slot says.
+fn answer(slots: [Slot; SLOTS], slot: u64, code: u64, call: Call) -> u64 {
+    if SLOTS as u64 <= slot {
+        return 9;
+    }
+    slots[slot as usize].answer(code, call)
+}
+
+// Makes a trace and the calls of a list, and keeps each call's outcome.
+fn run(code: u64, list: usize, outcomes: &mut [u64; ALL_CALLS]) -> Trial
     requires { ⌜ list < 4 ⌝ }
 {
     let mut bytes = [0u8; BYTES];
     let mut slots = [Slot::blank(); SLOTS];
     trace::make(&mut bytes, code, SLOTS as u64);
-    let mut state = draw(code) + SEED + list;
-    let mut made: u64 = 0;
+    let mut state = draw(code) + SEED + (list as u64);
+    let mut made: usize = 0;
     while made < CALLS {
         let kind = draw(state);
         let place = draw(kind);
@@ -76,7 +95,8 @@ fn run(code: u64, list: u64) -> Trial
         let second = draw(first);
         let call = call_from(code, kind, first, second);
         let slot = about(place, SLOTS as u64);
-        make_call(&mut bytes, slot, call);
+        let due = answer(slots, slot, code, call);
+        outcomes[CALLS * list + made] = outcome(number(make_call(&mut bytes, slot, call)), due);
         if slot < SLOTS as u64 {
             slots[slot as usize] = slots[slot as usize].after(code, call);
         }
@@ -90,8 +110,13 @@ fn run(code: u64, list: u64) -> Trial
 }
 
 // Makes the trace and the calls of every list.
-pub(crate) fn run_all(code: u64) -> [Trial; LISTS] {
-    [run(code, 0), run(code, 1), run(code, 2), run(code, 3)]
+pub(crate) fn run_all(code: u64, outcomes: &mut [u64; ALL_CALLS]) -> [Trial; LISTS] {
+    [
+        run(code, 0, outcomes),
+        run(code, 1, outcomes),
+        run(code, 2, outcomes),
+        run(code, 3, outcomes),
+    ]
 }
 
 // A slot as it should be, counted through all traces.
@@ -125,15 +150,4 @@ pub(crate) fn append(trials: [Trial; LISTS], words: &mut [u64; WORDS], marks: &m
         marks[SAMPLES + j] = slot.marks;
         j += 1;
     }
-}
-
-// The slots of a group.
-pub(crate) fn slots_in(code: u64, trials: [Trial; LISTS], wanted: u64) -> u64 {
-    let mut count: u64 = 0;
-    let mut j: usize = 0;
-    while j < ALL {
-        count = count + counted(slot(trials, j).group(code) == wanted);
-        j += 1;
-    }
-    count
 }

@@ -1,6 +1,6 @@
-// What a slot should hold after calls, by the calls alone and never by their answers.
+// What a slot should hold after calls, and what each call should answer, by the calls alone and never by their answers.
+use crate::codewords::codeword;
 use crate::words::READINGS;
-use crate::words::codeword;
 use crate::words::steps;
 use crate::words::sum;
 use crate::words::width;
@@ -34,15 +34,9 @@ impl Slot {
         }
     }
 
-    // After a put: nothing changes where the step or the reading is too large.
-    fn put(self, code: u64, step: u64, reading: u64) -> Slot {
-        if steps(code) <= step {
-            return self;
-        }
-        if READINGS <= reading {
-            return self;
-        }
-        let message = step * READINGS + reading;
+    // After a put of a fit step and reading: the reading is the message's lowest 12 bits. Its codeword, and no marks.
+    fn put(code: u64, step: u64, reading: u64) -> Slot {
+        let message = (step << 12) | reading;
         Slot {
             written: true,
             message: message,
@@ -51,34 +45,43 @@ impl Slot {
         }
     }
 
-    // The bit that a flip or a mark reaches: 0 where the slot is blank, and where it has no such position.
-    fn bit(self, code: u64, position: u64) -> u64 {
-        let width = width(code);
-        if !self.written {
-            return 0;
-        }
-        if width <= position {
-            return 0;
-        }
-        1u64 << (width - 1 - position)
-    }
-
     // After a flip.
     fn flip(mut self, code: u64, position: u64) -> Slot {
-        self.word = self.word ^ self.bit(code, position);
+        self.word = self.word ^ bit(code, position);
         self
     }
 
     // After a mark.
     fn mark(mut self, code: u64, position: u64) -> Slot {
-        self.marks = self.marks | self.bit(code, position);
+        self.marks = self.marks | bit(code, position);
         self
     }
 
-    // After a call.
-    pub(crate) fn after(self, code: u64, call: Call) -> Slot {
+    // What a flip or a mark should answer: 0, or refusal 11 or 12.
+    fn position_answer(self, code: u64, position: u64) -> u64 {
+        if !self.written {
+            return 11;
+        }
+        if width(code) <= position { 12 } else { 0 }
+    }
+
+    // What a call of this slot should answer: 0 where it is accepted, otherwise the refusal's number.
+    pub(crate) fn answer(self, code: u64, call: Call) -> u64 {
         match call {
-            Call::Put(step, reading) => self.put(code, step, reading),
+            Call::Put(step, reading) => put_answer(code, step, reading),
+            Call::Clear => 0,
+            Call::Flip(position) => self.position_answer(code, position),
+            Call::Mark(position) => self.position_answer(code, position),
+        }
+    }
+
+    // After a call: a refused one changes nothing.
+    pub(crate) fn after(self, code: u64, call: Call) -> Slot {
+        if self.answer(code, call) != 0 {
+            return self;
+        }
+        match call {
+            Call::Put(step, reading) => Slot::put(code, step, reading),
             Call::Clear => Slot::blank(),
             Call::Flip(position) => self.flip(code, position),
             Call::Mark(position) => self.mark(code, position),
@@ -93,4 +96,21 @@ impl Slot {
         let sum = sum(codeword(code, self.message), self.word, self.marks);
         if sum <= 10 { sum } else { 11 }
     }
+}
+
+// What a put should answer: 0, or refusal 13.
+fn put_answer(code: u64, step: u64, reading: u64) -> u64 {
+    if steps(code) <= step {
+        return 13;
+    }
+    if READINGS <= reading { 13 } else { 0 }
+}
+
+// The bit of a position; 0 where there is no such position.
+fn bit(code: u64, position: u64) -> u64 {
+    let width = width(code);
+    if width <= position {
+        return 0;
+    }
+    1u64 << (width - 1 - position)
 }

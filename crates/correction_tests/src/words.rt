@@ -1,15 +1,28 @@
 // What the tests know of a code and its words, by plain arithmetic. A message is a step times 4096 plus a reading.
-use codes::Encoded;
 ghost use Prim.Native.Nat.{_≤_, _<_};
 
 // The readings of a step.
 pub(crate) const READINGS: u64 = 4096;
 
+// The columns of a code's words.
+pub(crate) fn columns(code: u64) -> usize
+    ensures { λ r. ⌜ (9 ≤ r) × (r ≤ 10) ⌝ }
+{
+    if code <= 2 { 9 } else { 10 }
+}
+
 // The bits of a code's words.
 pub(crate) fn width(code: u64) -> u64
-    ensures { λ r. ⌜ (8 ≤ r) × (r ≤ 40) ⌝ }
+    ensures { λ r. ⌜ (36 ≤ r) × (r ≤ 40) ⌝ }
 {
     if code <= 2 { 36 } else { 40 }
+}
+
+// The bits of a code's messages.
+pub(crate) fn message_bits(code: u64) -> u64
+    ensures { λ r. ⌜ (19 ≤ r) × (r ≤ 22) ⌝ }
+{
+    if code <= 2 { 19 } else { 22 }
 }
 
 // The number of a code's steps.
@@ -21,17 +34,18 @@ pub(crate) fn steps(code: u64) -> u64
 
 // The number of a code's messages.
 pub(crate) fn messages(code: u64) -> u64
-    ensures { λ r. ⌜ 0 < r ⌝ }
+    ensures { λ r. ⌜ r ≤ 4194304 ⌝ }
 {
     steps(code) * READINGS
 }
 
-// The codeword of a message, or 0.
-pub(crate) fn codeword(code: u64, message: u64) -> u64 {
-    let Encoded::Word(w) = codes::encode(code, message) else {
-        return 0;
-    };
-    w
+// The positions of a code's words, each a one.
+pub(crate) fn positions(code: u64) -> u64 {
+    if code <= 2 {
+        0xF_FFFF_FFFF
+    } else {
+        0xFF_FFFF_FFFF
+    }
 }
 
 // The ones of a number.
@@ -51,4 +65,9 @@ pub(crate) fn wrong(codeword: u64, word: u64, marks: u64) -> u64
 // Twice the wrong positions, and the marks: a codeword is near where this is at most 7.
 pub(crate) fn sum(codeword: u64, word: u64, marks: u64) -> u64 {
     2 * wrong(codeword, word, marks) + ones(marks)
+}
+
+// Whether a codeword is near. Most have more than three wrong positions, and are far whatever the marks.
+pub(crate) fn is_near(codeword: u64, word: u64, marks: u64) -> bool {
+    wrong(codeword, word, marks) <= 3 && sum(codeword, word, marks) <= 7
 }

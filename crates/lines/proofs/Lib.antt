@@ -1,5 +1,6 @@
--- What the layers above may cite: the claim.
+-- What the layers above may cite: the claims, and an input in its buffer.
 pub mod Examples
+pub mod Inputs
 -- Texts: decimal digits, and texts that are written one after the other.
 mod Decimals
 mod Texts

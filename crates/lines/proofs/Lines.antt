@@ -4,11 +4,11 @@
 use mathlib.Core.Path.{_≡_, refl}
 use mathlib.Core.Bool.{Bool, true, false, cond}
 use mathlib.Core.List.{List, [], _∷_, _++_, append-assoc, append-nil}
-use Prim.Native.Nat.{ℕ, _<_, _≤_}
+use Prim.Native.Nat.{ℕ, _≤_}
 use native.Mathlib.Omega.{arith}
 use lib.Dec.{ltb}
 use lib.ListN.{length}
-use borrow.Author.Tests.{lt-ltb, le-ltb, ltb-true, ltb-false}
+use borrow.Author.Tests.{ltb-true, ltb-false}
 use Rattle.codes.specs.Answer.{accepted, refused}
 use Rattle.trace.specs.declared.answer.Reading.{Reading}
 use Rattle.trace.specs.declared.answer.Survey.{Survey}
@@ -18,6 +18,7 @@ use Rattle.trace.specs.Survey.{statusOf, is}
 use Rattle.trace.specs.Trace.{aloneIn, surveyIn}
 use Rattle.trace.proofs.Laws.{status-read, status-over}
 use Rattle.lines.specs.Text.{text, decimal, spaced}
+use Rattle.lines.specs.Input.{isTooLong}
 use Rattle.lines.specs.Listing.{line, statusWord, ending, totalLine, refusedLine, slotLines, listing}
 
 pub spaced-more : (l : List ℕ) (n : ℕ) → spaced (l ++ (n ∷ [])) ≡ (spaced l ++ text " ") ++ decimal n
@@ -58,15 +59,15 @@ module _ (v : Reading) (s : Status) (e : s ≡ statusOf (accepted v)) where
 
 -- ---- a listing
 
-pub listing-long : (file : List ℕ) → 65536 < length file → refusedLine 7 ≡ listing file
+pub listing-long : (file : List ℕ) → isTooLong file ≡ true → refusedLine 7 ≡ listing file
 unfolding listing
-listing-long file h = simp (lt-ltb 65536 (length file) h)
+listing-long file long = simp long
 
-pub listing-refused : (file : List ℕ) (n : ℕ) → length file ≤ 65536 → surveyIn file ≡ refused n → refusedLine n ≡ listing file
+pub listing-refused : (file : List ℕ) (n : ℕ) → isTooLong file ≡ false → surveyIn file ≡ refused n → refusedLine n ≡ listing file
 unfolding listing
-listing-refused file n h e = simp (le-ltb 65536 (length file) h, e)
+listing-refused file n short e = simp (short, e)
 
-pub listing-accepted : (file : List ℕ) (s : Survey) → length file ≤ 65536 → surveyIn file ≡ accepted s
+pub listing-accepted : (file : List ℕ) (s : Survey) → isTooLong file ≡ false → surveyIn file ≡ accepted s
     → slotLines (aloneIn file) (s .slots) ++ totalLine (s .slots) (s .counts) ≡ listing file
 unfolding listing
-listing-accepted file s h e = simp (le-ltb 65536 (length file) h, e)
+listing-accepted file s short e = simp (short, e)

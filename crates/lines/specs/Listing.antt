@@ -2,8 +2,6 @@
 use mathlib.Core.Bool.{cond}
 use mathlib.Core.List.{List, [], _∷_, _++_}
 use Prim.Native.Nat.{ℕ, zero, suc}
-use lib.Dec.{ltb}
-use lib.ListN.{length}
 use Rattle.codes.specs.Answer.{Answer, accepted, refused}
 use Rattle.trace.specs.declared.answer.Reading.{Reading}
 use Rattle.trace.specs.declared.answer.Counts.{Counts}
@@ -13,6 +11,7 @@ use Rattle.trace.specs.Answers.{readingValues, countsValues}
 use Rattle.trace.specs.Survey.{statusOf}
 use Rattle.trace.specs.Trace.{aloneIn, surveyIn}
 use Rattle.lines.specs.Text.{text, decimal, spaced}
+use Rattle.lines.specs.Input.{isTooLong}
 
 -- a text, numbers after it, and a newline
 unfoldable pub line : List ℕ → List ℕ → List ℕ
@@ -67,4 +66,4 @@ listed file (refused number) = refusedLine number
 
 -- 'A refused file, or one above 64 KiB (as 7), prints one line only'
 unfoldable pub listing : List ℕ → List ℕ
-listing file = cond (ltb 65536 (length file)) (refusedLine 7) (listed file (surveyIn file))
+listing file = cond (isTooLong file) (refusedLine 7) (listed file (surveyIn file))

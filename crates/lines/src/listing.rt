@@ -1,18 +1,19 @@
 // The listing of a file.
+use crate::input::INPUT;
+use crate::input::is_too_long;
 use crate::line::refused_line;
 use crate::line::slot_line;
 use crate::line::total_line;
 use trace::Refusal;
 use trace::SurveyAnswer;
 ghost use mathlib.Core.Path.{_≡_};
+ghost use mathlib.Core.Bool.{false};
 ghost use Prim.Native.Nat.{_*_, _≤_};
 ghost use lib.ListN.{length, take, drop};
 ghost use Rattle.trace.specs.Trace.{aloneIn};
+ghost use Rattle.lines.specs.Input.{isTooLong, InputBuffer, readInto};
 ghost use Rattle.lines.specs.Listing.{slotLines, listing};
 ghost use Rattle.lines.specs.ContractsOfSteps.{Written};
-
-// A file has at most this many bytes.
-pub const LONGEST: usize = 65536;
 
 // Every listing fits: 4,000 lines of at most 110 bytes, and a last one of at most 132.
 pub const TEXT: usize = 440132;
@@ -32,15 +33,12 @@ fn slot_lines(file: &[u8], slots: u64, out: &mut [u8]) -> usize
     end
 }
 
-// Writes the listing of a file, and answers its length; the bytes behind it stay. That the length is the text's is said apart, so that
-// callers lend `&out[..r]` without a proof.
-pub fn list(file: &[u8], out: &mut [u8; TEXT]) -> usize
-    ensures { λ r. ⌜ (take r (now (out .exit)) ≡ listing (now (file .entry))) × (drop r (now (out .exit)) ≡ drop r (now (out .entry))) ⌝ }
-    ensures { λ r. ⌜ (r ≤ length (now (out .exit))) × (r ≡ length (take r (now (out .exit)))) ⌝ }
+// Writes the listing of a file that is not too long.
+fn list_file(file: &[u8], out: &mut [u8; TEXT]) -> usize
+    requires { ⌜ isTooLong (now file) ≡ false ⌝ }
+    ensures { λ r. ⌜ Written (now (out .entry)) 0 (listing (now (file .entry))) (now (out .exit)) r ⌝ }
+    ensures { λ r. ⌜ r ≤ length (now (out .exit)) ⌝ }
 {
-    if LONGEST < file.len() {
-        return refused_line(out, Refusal::BufferShort.number());
-    }
     match trace::survey(file) {
         SurveyAnswer::Refused(r) => refused_line(out, r.number()),
         SurveyAnswer::Surveyed(s) => {
@@ -50,4 +48,19 @@ pub fn list(file: &[u8], out: &mut [u8; TEXT]) -> usize
             total_line(out, end, slots, counts)
         }
     }
+}
+
+// Writes the listing of a file, of which `size` bytes were read into a buffer, and answers its length; the bytes behind it stay. That the
+// length is the text's is said apart, so that callers lend `&out[..r]` without a proof.
+pub fn list(input: &[u8; INPUT], size: usize, out: &mut [u8; TEXT]) -> usize
+    ensures { λ r. ⌜ InputBuffer (now (input .entry))
+        × (take r (now (out .exit)) ≡ listing (readInto (now (input .entry)) size))
+        × (drop r (now (out .exit)) ≡ drop r (now (out .entry))) ⌝ }
+    ensures { λ r. ⌜ (r ≤ length (now (out .exit))) × (r ≡ length (take r (now (out .exit)))) ⌝ }
+{
+    if is_too_long(input, size) {
+        return refused_line(out, Refusal::BufferShort.number());
+    }
+    let bytes: &[u8] = input;
+    list_file(&bytes[..size], out)
 }

@@ -1,17 +1,40 @@
-// Listings of files that are made here: refused ones, the longest one and one byte more, free bytes before the slots, every
-// status under every code, and the most slots.
+// Listings of standard input, which has one byte more than is listed, and of files that are made here: refused ones, the longest one and
+// one byte more, free bytes before the slots, every status under every code, and the most slots.
+use libc::STDIN_FILENO;
 use libc::STDOUT_FILENO;
 use trace::Done;
+ghost use mathlib.Core.Path.{_≡_};
+ghost use Prim.Native.Nat.{_≤_};
+ghost use lib.ListN.{length, take};
 
 // Writes a text.
 fn text(bytes: &[u8]) {
     io::write_all(STDOUT_FILENO, bytes);
 }
 
+// Copies a file to the front of an input, as far as it fits, and answers how many bytes it has there.
+fn copy(file: &[u8], input: &mut [u8]) -> usize {
+    let mut size = 0;
+    while size < file.len() && size < input.len() {
+        input[size] = file[size];
+        size += 1;
+    }
+    size
+}
+
+// Lists a file, and answers the length of its listing.
+fn list_into(file: &[u8], out: &mut [u8; lines::TEXT]) -> usize
+    ensures { λ r. ⌜ (r ≤ length (now (out .exit))) × (r ≡ length (take r (now (out .exit)))) ⌝ }
+{
+    let mut input = [0u8; lines::INPUT];
+    let size = copy(file, &mut input);
+    lines::list(&input, size, out)
+}
+
 // Writes a file's listing.
 fn list(file: &[u8]) {
     let mut out = [0u8; lines::TEXT];
-    let end = lines::list(file, &mut out);
+    let end = list_into(file, &mut out);
     text(&out[..end]);
 }
 
@@ -21,6 +44,16 @@ fn done(answer: Done) {
         Done::Accepted => (),
         Done::Refused(_) => text(b"a call was refused\n"),
     }
+}
+
+// Standard input, read as the program reads it: a trace with free bytes before it, 65,537 bytes in all.
+fn standard_input() {
+    text(b"standard input of 65537 bytes\n");
+    let mut input = [0u8; lines::INPUT];
+    let size = io::read_full(STDIN_FILENO, &mut input);
+    let mut out = [0u8; lines::TEXT];
+    let end = lines::list(&input, size, &mut out);
+    text(&out[..end]);
 }
 
 // Files that are too short for a trailer, or end with none.
@@ -97,11 +130,12 @@ fn most_slots() {
     let mut file = [0u8; 44008];
     done(trace::make(&mut file, 4, 4000));
     let mut out = [0u8; lines::TEXT];
-    io::print_decimal(STDOUT_FILENO, lines::list(&file, &mut out) as u64);
+    io::print_decimal(STDOUT_FILENO, list_into(&file, &mut out) as u64);
     text(b"\n");
 }
 
 fn main() {
+    standard_input();
     refused_files();
     longest_file();
     longer_file();

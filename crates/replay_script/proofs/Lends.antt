@@ -12,6 +12,7 @@ use lib.Dec.{ltb}
 use lib.ListN.{length, take, drop, getD, set, length-replicate, getD-replicate, drop-of-length-le}
 use lib.Seq.{drop-cons, take-length, paste, paste-suc}
 use borrow.Author.Tests.{lt-ltb, le-ltb, le-leb, lt-leb, eq-eqb, ne-eqb}
+use Rattle.lines.specs.Input.{longest}
 use Rattle.script.specs.declared.words.Number.{Number}
 use Rattle.script.specs.Script.{text, before, is}
 use Rattle.replay_script.specs.declared.lending.Lent.{Lent}
@@ -76,16 +77,16 @@ lent-next xs b buffer i v hb hx byte e =
     let room : 0 + i < length b = omega arith in
     rw (byte, e) (simp (zero-add, add-one) (simp zero-add at (paste-suc b 0 xs i 0 room hx)))
 
-pub lent-all : (xs b out : List ℕ) (n : ℕ) → n ≡ length xs → n ≤ length b → out ≡ paste b 0 xs n
+pub lent-all : (xs b out : List ℕ) (n : ℕ) → n ≡ length xs → n ≤ longest → out ≡ paste b 0 xs n
     → lending (Lent.Bytes n) out ≡ lendIn (some xs) b
 unfolding lendIn
 lent-all xs b out n size fits e =
-    simp (e, size, zero-add, take-length, le-leb (length xs) (length b) (omega arith))
+    simp (e, size, zero-add, take-length, le-leb (length xs) longest (omega arith))
 
 -- bytes that do not fit
-pub lent-too-long : (xs b : List ℕ) → length b < length xs → lending Lent.Nothing b ≡ lendIn (some xs) b
+pub lent-too-long : (xs b : List ℕ) → longest < length xs → lending Lent.Nothing b ≡ lendIn (some xs) b
 unfolding lendIn
-lent-too-long xs b h = simp (lt-leb (length xs) (length b) h)
+lent-too-long xs b h = simp (lt-leb (length xs) longest h)
 
 pub lent-nothing : (o : Option (List ℕ)) (b : List ℕ) → none ≡ o → lending Lent.Nothing b ≡ lendIn o b
 unfolding lendIn

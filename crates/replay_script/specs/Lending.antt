@@ -5,6 +5,7 @@ use mathlib.Core.Option.{Option, none, some}
 use Prim.Native.Nat.{ℕ, _+_, _*_, _%_}
 use lib.Dec.{leb, ltb, eqb}
 use lib.ListN.{length, take, drop, replicate}
+use Rattle.lines.specs.Input.{longest}
 use Rattle.script.specs.declared.words.Number.{Number}
 use Rattle.script.specs.Script.{text, before, is, numberOf}
 use Rattle.replay_script.specs.declared.lending.Lent.{Lent}
@@ -64,8 +65,8 @@ pub record Lending : Type 0 where
 abbrev pub lending : Lent → List ℕ → Lending
 lending r b = record { lent = r; buffer = b }
 
--- lent bytes stand at the front of the buffer, where they fit; else nothing is lent, and the buffer stays
+-- at most 65,536 bytes are lent, and stand at the front of the buffer; of more nothing is lent, and the buffer stays
 unfoldable pub lendIn : Option (List ℕ) → List ℕ → Lending
 lendIn none b = lending Lent.Nothing b
 lendIn (some xs) b =
-    cond (leb (length xs) (length b)) (lending (Lent.Bytes (length xs)) (xs ++ drop (length xs) b)) (lending Lent.Nothing b)
+    cond (leb (length xs) longest) (lending (Lent.Bytes (length xs)) (xs ++ drop (length xs) b)) (lending Lent.Nothing b)

@@ -7,6 +7,7 @@ ghost use mathlib.Core.Path.{_≡_};
 ghost use mathlib.Core.Option.{some};
 ghost use Prim.Native.Nat.{_<_};
 ghost use lib.ListN.{length};
+ghost use Rattle.lines.specs.Input.{longest};
 ghost use Rattle.replay_script.specs.Lending.{place, hexValue, isHex, hexBytes, zeros, countOf, lineLends, lending, lendIn};
 ghost use Rattle.replay_script.specs.ContractsOfSteps.{Fits};
 
@@ -59,8 +60,9 @@ fn is_hex(word: &[u8]) -> bool
 
 // Lends as many zero bytes, where they fit.
 fn lend_zeros(n: u64, buffer: &mut [u8]) -> Lent
+    requires { ⌜ length (now buffer) ≡ longest ⌝ }
     ensures { λ r. ⌜ (lending r (now (buffer .exit)) ≡ lendIn (some (zeros n)) (now (buffer .entry)))
-        × Fits (length (now (buffer .entry))) r ⌝ }
+        × Fits r ⌝ }
 {
     let size = n as usize;
     if buffer.len() < size {
@@ -76,8 +78,9 @@ fn lend_zeros(n: u64, buffer: &mut [u8]) -> Lent
 
 // Lends the bytes of pairs of hexadecimal digits, where they fit.
 fn lend_hex(word: &[u8], buffer: &mut [u8]) -> Lent
+    requires { ⌜ length (now buffer) ≡ longest ⌝ }
     ensures { λ r. ⌜ (lending r (now (buffer .exit)) ≡ lendIn (some (hexBytes (now (word .entry)))) (now (buffer .entry)))
-        × Fits (length (now (buffer .entry))) r ⌝ }
+        × Fits r ⌝ }
 {
     let size = word.len() / 2;
     if buffer.len() < size {
@@ -103,8 +106,9 @@ fn count(word: &[u8]) -> Number
 
 // Lends the buffer that a line asks for. Any other line changes nothing.
 pub(crate) fn lend(line: &[u8], buffer: &mut [u8]) -> Lent
+    requires { ⌜ length (now buffer) ≡ longest ⌝ }
     ensures { λ r. ⌜ (lending r (now (buffer .exit)) ≡ lendIn (lineLends (now (line .entry))) (now (buffer .entry)))
-        × Fits (length (now (buffer .entry))) r ⌝ }
+        × Fits r ⌝ }
 {
     if line.len() <= NAME {
         return Lent::Nothing;

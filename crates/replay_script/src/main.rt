@@ -12,7 +12,7 @@
 //     bytes              the buffer, in hexadecimal
 //
 // A call that is refused gets `refused` and its number. A line that can't be read is given back after `unreadable: `, and
-// changes nothing. Until the first `buffer` line the buffer is empty.
+// changes nothing. Until the first `buffer` line the buffer is empty. A script has at most 65,536 bytes, and so has the buffer.
 mod answers;
 mod lending;
 
@@ -24,14 +24,17 @@ use answers::write_text;
 use lending::Lent;
 use lending::lend;
 use libc::STDIN_FILENO;
+use lines::INPUT;
+use lines::LONGEST;
 use script::Command;
+use script::ScriptSize;
 use script::find;
 use script::parse_line;
+use script::script_size;
+ghost use mathlib.Core.Path.{_≡_};
 ghost use Prim.Native.Nat.{_≤_};
 ghost use lib.ListN.{length};
-
-// A script, and a buffer, has at most this many bytes.
-const LONGEST: usize = 65536;
+ghost use Rattle.lines.specs.Input.{longest};
 
 // Makes a call on the lent bytes, and writes its answer.
 fn call(b: &mut [u8], command: Command) {
@@ -50,8 +53,8 @@ fn call(b: &mut [u8], command: Command) {
 
 // Plays a line on the first `size` bytes of the buffer, and answers how many are lent from then on.
 fn play(line: &[u8], buffer: &mut [u8], size: usize) -> usize
-    requires { ⌜ size ≤ length (now buffer) ⌝ }
-    ensures { λ r. ⌜ r ≤ length (now (buffer .entry)) ⌝ }
+    requires { ⌜ (length (now buffer) ≡ longest) × (size ≤ longest) ⌝ }
+    ensures { λ r. ⌜ r ≤ longest ⌝ }
 {
     if let Lent::Bytes(n) = lend(line, buffer) {
         write_text(b"ok\n");
@@ -68,24 +71,26 @@ fn play(line: &[u8], buffer: &mut [u8], size: usize) -> usize
     size
 }
 
-// Plays the lines of a script, one after the other.
-fn replay(text: &[u8]) {
+// Plays the lines of a script, of which `size` bytes were read, one after the other; one that is too long is not played.
+fn replay(input: &[u8; INPUT], size: usize) {
+    let ScriptSize::Bytes(n) = script_size(input, size) else {
+        write_text(b"unreadable: more than 65536 bytes\n");
+        return;
+    };
+    let bytes: &[u8] = input;
+    let text = &bytes[..n];
     let mut buffer = [0u8; LONGEST];
-    let mut size = 0;
+    let mut lent = 0;
     let mut at = 0;
     while at < text.len() {
         let end = find(text, at, b'\n');
-        size = play(&text[at..end], &mut buffer, size);
+        lent = play(&text[at..end], &mut buffer, lent);
         at = end + 1;
     }
 }
 
 fn main() {
-    let mut text = [0u8; LONGEST + 1];
-    let size = io::read_full(STDIN_FILENO, &mut text);
-    if LONGEST < size {
-        write_text(b"unreadable: more than 65536 bytes\n");
-        return;
-    }
-    replay(&text[..size]);
+    let mut input = [0u8; INPUT];
+    let size = io::read_full(STDIN_FILENO, &mut input);
+    replay(&input, size);
 }

@@ -1,10 +1,10 @@
--- The laws of symbols and columns, in reading order. The layers above may cite all of them.
+-- What is proved of symbols and columns, in reading order.
 
--- a test at every value of a finite type, and the law that it shows
+-- ---- what the layers above may cite
+-- the claims of specs/Claims.antt
+pub mod Claims
+-- a test at every value of a finite type, and the law that it shows: no law of symbols, but the way to one
 pub mod Every
--- exclusive or of bits, and the sum and product of symbols
-pub mod Symbols
--- value, parity and top bit add, and fix a column; weight is bounded by parity, value and summands
-pub mod Columns
+-- ---- numbers and packed tables
 -- symbols and columns as numbers, there and back, and tables that are indexed by them
-pub mod Numbers
+mod Numbers

@@ -1,44 +1,51 @@
--- Symbols and columns as numbers: there and back, modulo 4 and 16, and tables that are indexed by such numbers.
--- There and back is a test over the type, or over the numbers below 4 or 16. A number's lowest bits are those of its remainder, so what
+-- Bits, symbols and columns as numbers: there and back, modulo 2, 4 and 16, and tables that are indexed by such numbers.
+-- There and back is a test over the type, or over the numbers below the base. A number's lowest bits are those of its remainder, so what
 -- is tested below 4 or 16 holds of every number, taken modulo 4 or 16.
-use mathlib.Core.Path.{_≡_, ap, ap₂, _∙_}
+use mathlib.Core.Path.{_≡_, sym, ap, ap₂, _∙_}
 use mathlib.Core.Bool.{Bool-discrete}
-use Prim.Native.Nat.{ℕ, suc, _+_, _/_, _%_, _^_, _<_}
+use Prim.Native.Nat.{ℕ, suc, _+_, _/_, _%_, _^_}
 use native.Mathlib.Nat.{mod-lt}
-use lib.Dec.{T, lit<}
+use lib.Dec.{T, lit<, leb, ltb, ltb→lt}
 use lib.Pow.{field, mod-mod-pow}
 use Rattle.symbols.specs.Symbol.{Symbol, Symbol-discrete, symbol, symbolNumber, symbolOf, hasBit}
-use Rattle.symbols.specs.Column.{Column, Column-discrete, columnOf, columnNumber}
-use Rattle.symbols.proofs.Every.{symbols, columns, below, passes, law, law-le, law-below, law-below-both, number-discrete}
-
-pub symbol-of-number : (s : Symbol) → symbolOf (symbolNumber s) ≡ s
-symbol-of-number s = law symbols Symbol-discrete (λ s. symbolOf (symbolNumber s)) (λ s. s) tt s
-
-pub number-of-symbol : (n : ℕ) → n < 4 → symbolNumber (symbolOf n) ≡ n
-number-of-symbol n h = law-below 4 number-discrete (λ n. symbolNumber (symbolOf n)) (λ n. n) tt n h
-
-pub symbol-number-lt : (s : Symbol) → symbolNumber s < 4
-symbol-number-lt s = law-le symbols (λ s. suc (symbolNumber s)) (λ s. 4) tt s
-
-pub column-of-number : (c : Column) → columnOf (columnNumber c) ≡ c
-column-of-number c = law columns (Column-discrete Bool-discrete) (λ c. columnOf (columnNumber c)) (λ c. c) tt c
-
-pub number-of-column : (n : ℕ) → n < 16 → columnNumber (columnOf n) ≡ n
-number-of-column n h = law-below 16 number-discrete (λ n. columnNumber (columnOf n)) (λ n. n) tt n h
-
-pub column-number-lt : (c : Column) → columnNumber c < 16
-column-number-lt c = law-le columns (λ c. suc (columnNumber c)) (λ c. 16) tt c
+use Rattle.symbols.specs.Column.{Column, Column-discrete, one, columnOf, columnNumber}
+use Rattle.symbols.specs.Claims.{Counted}
+use Rattle.symbols.proofs.Every.{Every, bits, symbols, columns, below, passes, law, law-le, law-below, law-below-both, number-discrete}
 
 -- a number's low bits are those of its remainder
-pub bit-mod : (k j n : ℕ) → hasBit k (n % 2 ^ (j + 1 + k)) ≡ hasBit k n
-bit-mod k j n =
-    rw (field n (j + 1) k, mod-mod-pow (n / 2 ^ k) j 1)
+bit-mod : (k j n : ℕ) → hasBit k (n % 2 ^ (j + 1 + k)) ≡ hasBit k n
+bit-mod k j n = rw (field n (j + 1) k, mod-mod-pow (n / 2 ^ k) j 1)
 
 pub symbol-mod : (n : ℕ) → symbolOf (n % 4) ≡ symbolOf n
 symbol-mod n = ap₂ symbol (bit-mod 1 0 n) (bit-mod 0 1 n)
 
-pub column-mod : (n : ℕ) → columnOf (n % 16) ≡ columnOf n
+column-mod : (n : ℕ) → columnOf (n % 16) ≡ columnOf n
 column-mod n = cc (bit-mod 3 0 n, bit-mod 2 1 n, bit-mod 1 2 n, bit-mod 0 3 n)
+
+-- a type is counted by its values' numbers where these are below the base and lead back, and a number's remainder stands for what it does
+counted : {A : Type 0} (p : Every A) (d : Discrete A) (base : ℕ) (lowest : ℕ → A) (number : A → ℕ) → T (ltb 0 base) →
+    T (p .all (λ x. leb (suc (number x)) base)) → T (p .all (λ x. passes (d (lowest (number x)) x))) →
+    T (below base (λ n. passes (number-discrete (number (lowest n)) n))) → ((n : ℕ) → lowest (n % base) ≡ lowest n) → Counted base lowest number
+counted p d base lowest number t small back there modulo =
+    let positive = ltb→lt 0 base t in
+    record {
+      positive = positive;
+      small = law-le p (λ x. suc (number x)) (λ x. base) small;
+      back = law p d (λ x. lowest (number x)) (λ x. x) back;
+      there =
+          λ n.
+          ap number (sym (modulo n)) ∙ law-below base number-discrete (λ n. number (lowest n)) (λ n. n) there (n % base) (mod-lt n positive);
+      modulo = modulo;
+    }
+
+pub bits-counted : Counted 2 (hasBit 0) one
+bits-counted = counted bits Bool-discrete 2 (hasBit 0) one tt tt tt tt (bit-mod 0 0)
+
+pub symbols-counted : Counted 4 symbolOf symbolNumber
+symbols-counted = counted symbols Symbol-discrete 4 symbolOf symbolNumber tt tt tt tt symbol-mod
+
+pub columns-counted : Counted 16 columnOf columnNumber
+columns-counted = counted columns (Column-discrete Bool-discrete) 16 columnOf columnNumber tt tt tt tt column-mod
 
 -- a table that is packed into one number w, over the columns or over pairs of symbols: f reads an entry of it. Where each entry
 -- agrees with the rule g, so does what is read at any number

@@ -9,7 +9,7 @@ use lib.Dec.{eqb}
 use borrow.Author.Tests.{eqb-true, eq-eqb, not-true}
 use Rattle.codes.specs.Claims.{Among}
 
-abbrev has : List ℕ → ℕ → Bool
+abbrev pub has : List ℕ → ℕ → Bool
 has [] n = false
 has (x ∷ xs) n = eqb n x || has xs n
 
@@ -30,7 +30,7 @@ among-has (x ∷ xs) n k = ⊎-elim (λ e. simp (eq-eqb n x e)) (λ k. go (eqb n
     go false e = e
 
 -- a test that each number of a list passes
-abbrev each : (ℕ → Bool) → List ℕ → Bool
+abbrev pub each : (ℕ → Bool) → List ℕ → Bool
 each f [] = true
 each f (x ∷ xs) = f x && each f xs
 

@@ -1,11 +1,10 @@
--- What is particular to each call, in one table: the numbers of its refusals, on any buffer and on a plain trace, and, where a sound plain trace
--- accepts it, that it leaves on the bytes the bytes of what it leaves of the plain trace, which is sound and has the same code. No other
+-- What is particular to each call, in one table: the numbers of its refusals, in order, and on a plain trace; that it gives values where none of
+-- them is met; and, where a sound plain trace accepts it, that it leaves on the bytes the bytes of what it leaves of the plain trace, which is sound and has the same code. No other
 -- proof goes by the calls. A call that changes one slot stores there what the new slot holds; its rows say that the slot is there and that
 -- its numbers fit. A plain slot is never bad, so 10 isn't met.
 use Prim.Native.Nat.{ℕ, _<_}
-use mathlib.Core.Path.{_≡_, refl, _∙_}
-use mathlib.Core.Bool.{Bool, true, false, _||_}
-use mathlib.Core.Logic.{inl, inr, ⊎-elim}
+use mathlib.Core.Path.{_≡_, refl, sym, _∙_}
+use mathlib.Core.Bool.{Bool, true, false, _||_, false≢true}
 use mathlib.Core.List.{List, [], _∷_}
 use mathlib.Core.Option.{Option, none, some}
 use native.Mathlib.Omega.{arith}
@@ -13,19 +12,19 @@ use lib.Dec.{leb}
 use lib.ListN.{length}
 use borrow.Author.Tests.{leb-false}
 use Rattle.codes.specs.declared.answer.Correction.{Correction}
-use Rattle.codes.specs.Answer.{Answer, accepted, refused, Row, unless, mapAnswer}
+use Rattle.codes.specs.Answer.{Answer, accepted, Row, unless, mapAnswer, Passes, Refuses}
 use Rattle.codes.specs.Projection.{Projection, width}
 use Rattle.codes.specs.Codes.{codeOf, stepLimit}
-use Rattle.codes.specs.Correction.{correct}
-use Rattle.codes.specs.Claims.{Among}
-use Rattle.codes.proofs.Rows.{not-refused, accepted-row, refused-by, refused-by-rows}
+use Rattle.codes.specs.Correction.{correct, isFar}
+use Rattle.codes.specs.Claims.{Among, numbers}
+use Rattle.codes.proofs.Rows.{accepted-row, passes-first, first-among}
 use Rattle.trace.specs.declared.slot.Content.{Content}
 use Rattle.trace.specs.Answers.{readingValues}
 use Rattle.trace.specs.Calls.{Call, put, flip, mark, clear, read, survey}
-use Rattle.trace.specs.View.{View, countOf, contentOf, messageOf, readCorrected, readContent, flipContent, markContent}
-use Rattle.trace.specs.Refusals.{noSlot, holdsBad, badSlot, blankSlot, noPosition, tooLarge}
-use Rattle.trace.specs.Rules.{bitRows, refusals, gives}
-use Rattle.trace.specs.Trace.{projectionIn, viewIn, refusalsIn, stored, leaves}
+use Rattle.trace.specs.View.{View, countOf, contentOf, messageOf, readingOf, readCorrected, readContent, flipContent, markContent}
+use Rattle.trace.specs.Refusals.{noSlot, holdsBad, badSlot, blankSlot, lostSlot, noPosition, tooLarge}
+use Rattle.trace.specs.Rules.{contentRows, bitRows, refusals, gives}
+use Rattle.trace.specs.Trace.{projectionIn, viewIn, stored, leaves}
 use Rattle.trace.specs.Plain.{Slot, Plain, projectionOf, slotOf, withSlot, holds, viewOf, bytes, flipped, marked, plainLeaves}
 use Rattle.trace.specs.Claims.{numbersOf}
 use Rattle.trace.proofs.Among.{among-within}
@@ -47,10 +46,12 @@ pub record Left (p : Plain) (b : List ℕ) (q : Plain) : Type 0 where
   pub code : q .code ≡ p .code
 
 pub record CallFacts (c : Call) : Type 0 where
-  -- on any buffer, a refusal has one of the call's numbers
-  pub numbered : (b : List ℕ) (n : ℕ) → unless (refusalsIn c b) (gives c (viewIn b)) ≡ refused n → Among n (numbersOf c)
-  -- on a plain trace, one of the plain trace's
-  pub plainly : (p : Plain) (n : ℕ) → unless (refusals c (viewOf p)) (gives c (viewOf p)) ≡ refused n → Among n plainNumbers
+  -- behind 7 and 8, its rows have the call's numbers, in order
+  pub ordered : (v : View) → 7 ∷ 8 ∷ numbers (refusals c v) ≡ numbersOf c
+  -- where none of them is met it gives values
+  pub accepts : (v : View) → Passes (refusals c v) → (vs : List ℕ) × (gives c v ≡ accepted vs)
+  -- on a plain trace, a row that is met has one of the plain trace's numbers
+  pub plainly : (p : Plain) (n : ℕ) → Refuses (refusals c (viewOf p)) n → Among n plainNumbers
   -- where it is accepted, both levels are left alike
   pub left : (p : Plain) → Sound p → (vs : List ℕ) → unless (refusals c (viewOf p)) (gives c (viewOf p)) ≡ accepted vs
       → Left p (leaves c (bytes p)) (plainLeaves c p)
@@ -58,7 +59,7 @@ pub record CallFacts (c : Call) : Type 0 where
 -- ---- calls that change a slot
 
 -- a call that is accepted names a slot that is there
-there : {A : Type 0} (p : Plain) (slot : ℕ) (a : Answer A) (v : A) → unless (noSlot (countOf (viewOf p)) slot ∷ []) a ≡ accepted v
+pub there : {A : Type 0} (p : Plain) (slot : ℕ) (a : Answer A) (v : A) → unless (noSlot (countOf (viewOf p)) slot ∷ []) a ≡ accepted v
     → (slot < length (p .slots)) × (a ≡ accepted v)
 there p slot a v e =
     let passed = accepted-row (noSlot (countOf (viewOf p)) slot) a v e in
@@ -101,12 +102,12 @@ never-bad p slot = rw (plain-content p slot) (go (slotOf p slot))
     go (Slot.written m F M) = refl
 
 module _ (p : Plain) (slot position : ℕ) where
-  bit-refused : (n : ℕ) → unless {A = List ℕ} (rowsOf (viewOf p) slot position) (accepted []) ≡ refused n → Among n plainNumbers
+  bit-refused : (n : ℕ) → Refuses (rowsOf (viewOf p) slot position) n → Among n plainNumbers
   bit-refused n e =
       let rows = noSlot (countOf (viewOf p)) slot ∷ blankSlot (contentOf (viewOf p) slot) ∷ noPosition (viewOf p .code) position ∷ [] in
-      among-within (9 ∷ 11 ∷ 12 ∷ []) plainNumbers refl n (refused-by-rows rows [] n (rw (never-bad p slot) at e))
+      among-within (9 ∷ 11 ∷ 12 ∷ []) plainNumbers refl n (first-among rows n (rw (never-bad p slot) at e))
 
-  bit-passed : (vs : List ℕ) → unless {A = List ℕ} (rowsOf (viewOf p) slot position) (accepted []) ≡ accepted vs
+  pub bit-passed : (vs : List ℕ) → unless {A = List ℕ} (rowsOf (viewOf p) slot position) (accepted []) ≡ accepted vs
       → (slot < length (p .slots)) × (position < width (projectionOf p))
   bit-passed vs e =
       let v = viewOf p in
@@ -130,70 +131,73 @@ module _ (f : Projection → ℕ → Slot → Slot) (g : Projection → ℕ → 
 
 -- ---- read
 
-corrected-five : (x : Option Correction) (n : ℕ) → mapAnswer readingValues (readCorrected x) ≡ refused n → n ≡ 5
+-- what mending finds is given
+found-given : (x : Option Correction) → isFar x ≡ false → (vs : List ℕ) × (mapAnswer readingValues (readCorrected x) ≡ accepted vs)
 unfolding readCorrected
-corrected-five (some c) n e = not-refused _ n e
-corrected-five none n e = cc
+found-given (some c) e = (readingValues (readingOf c), refl)
+found-given none e = absurd (false≢true (sym e))
 
-content-numbers : (π : Projection) (c : Content) (n : ℕ) → mapAnswer readingValues (readContent π c) ≡ refused n → Among n (5 ∷ 10 ∷ 11 ∷ [])
+content-given : (π : Projection) (c : Content) → Passes (contentRows π c) → (vs : List ℕ) × (mapAnswer readingValues (readContent π c) ≡ accepted vs)
 unfolding readContent
-content-numbers π Content.Blank n e = inr (inr (inl (cc)))
-content-numbers π Content.Bad n e = inr (inl (cc))
-content-numbers π (Content.Written word marks) n e = inl (corrected-five (correct π word marks) n e)
+content-given π Content.Blank e = let z : _≡_ {A = ℕ} 0 1 = cc in absurd (omega arith)
+content-given π Content.Bad e = let z : _≡_ {A = ℕ} 0 1 = cc in absurd (omega arith)
+content-given π (Content.Written word marks) e = found-given (correct π word marks) (passes-first (lostSlot π (Content.Written word marks)) [] e .0)
 
-slot-numbers : (π : Projection) (x : Slot) (n : ℕ) → mapAnswer readingValues (readContent π (holds π x)) ≡ refused n → Among n plainNumbers
-unfolding readContent
-slot-numbers π Slot.blank n e = inr (inr (inl (cc)))
-slot-numbers π (Slot.written m F M) n e = inl (corrected-five _ n e)
-
-module _ (slot : ℕ) where
-  read-numbered : (b : List ℕ) (n : ℕ) → unless (refusalsIn (read slot) b) (gives (read slot) (viewIn b)) ≡ refused n → Among n (numbersOf (read slot))
-  read-numbered b n e =
-      ⊎-elim (λ k. inr k)
-      (λ k. among-within (5 ∷ 10 ∷ 11 ∷ []) (numbersOf (read slot)) refl n (content-numbers _ (contentOf (viewIn b) slot) n k))
-      (refused-by (refusalsIn (read slot) b) (gives (read slot) (viewIn b)) n e)
-
-  read-plainly : (p : Plain) (n : ℕ) → unless (refusals (read slot) (viewOf p)) (gives (read slot) (viewOf p)) ≡ refused n → Among n plainNumbers
-  read-plainly p n e =
-      let v = viewOf p in
-      ⊎-elim (among-within (9 ∷ 11 ∷ []) plainNumbers refl n)
-      (λ k. slot-numbers (projectionOf p) (slotOf p slot) n (rw (plain-code p, plain-content p slot) at k))
-      (refused-by (noSlot (countOf v) slot ∷ blankSlot (contentOf v slot) ∷ []) (gives (read slot) v) n (rw (never-bad p slot) at e))
+read-plainly : (slot : ℕ) (p : Plain) (n : ℕ) → Refuses (refusals (read slot) (viewOf p)) n → Among n plainNumbers
+read-plainly slot p n e =
+    let v = viewOf p in
+    let rows = noSlot (countOf v) slot ∷ blankSlot (contentOf v slot) ∷ lostSlot (v .code) (contentOf v slot) ∷ [] in
+    among-within (9 ∷ 11 ∷ 5 ∷ []) plainNumbers refl n (first-among rows n (rw (never-bad p slot) at e))
 
 -- ---- the table
 
 unchanged : (p : Plain) → Sound p → Left p (bytes p) p
 unchanged p s = record { same = refl; sound = s; code = refl }
 
+-- a call that only changes
+done : (vs : List ℕ) × (accepted [] ≡ accepted vs)
+done = ([], refl)
+
 pub facts : (c : Call) → CallFacts c
 facts (put slot step reading) =
     record {
-      numbered = λ b. refused-by-rows (refusalsIn (put slot step reading) b) [];
-      plainly = λ p n e. among-within (9 ∷ 13 ∷ []) plainNumbers refl n (refused-by-rows (refusals (put slot step reading) (viewOf p)) [] n e);
+      ordered = λ v. refl;
+      accepts = λ v t. done;
+      plainly = λ p n e. among-within (9 ∷ 13 ∷ []) plainNumbers refl n (first-among (refusals (put slot step reading) (viewOf p)) n e);
       left = put-left slot step reading;
     }
 facts (flip slot position) =
     record {
-      numbered = λ b. refused-by-rows (refusalsIn (flip slot position) b) [];
+      ordered = λ v. refl;
+      accepts = λ v t. done;
       plainly = λ p. bit-refused p slot position;
       left = bit-left flipped flipContent flip-holds flip-fits slot position;
     }
 facts (mark slot position) =
     record {
-      numbered = λ b. refused-by-rows (refusalsIn (mark slot position) b) [];
+      ordered = λ v. refl;
+      accepts = λ v t. done;
       plainly = λ p. bit-refused p slot position;
       left = bit-left marked markContent mark-holds mark-fits slot position;
     }
 facts (clear slot) =
     record {
-      numbered = λ b. refused-by-rows (refusalsIn (clear slot) b) [];
-      plainly = λ p n e. among-within (9 ∷ []) plainNumbers refl n (refused-by-rows (refusals (clear slot) (viewOf p)) [] n e);
+      ordered = λ v. refl;
+      accepts = λ v t. done;
+      plainly = λ p n e. among-within (9 ∷ []) plainNumbers refl n (first-among (refusals (clear slot) (viewOf p)) n e);
       left = λ p s vs e. changed p s slot (there p slot _ vs e .0) Slot.blank tt _ refl;
     }
-facts (read slot) = record { numbered = read-numbered slot; plainly = read-plainly slot; left = λ p s vs e. unchanged p s }
+facts (read slot) =
+    record {
+      ordered = λ v. refl;
+      accepts = λ v t. content-given (v .code) (contentOf v slot) (passes-first (noSlot (countOf v) slot) (contentRows (v .code) (contentOf v slot)) t .1);
+      plainly = read-plainly slot;
+      left = λ p s vs e. unchanged p s;
+    }
 facts survey =
     record {
-      numbered = λ b. refused-by-rows (refusalsIn survey b) _;
-      plainly = λ p n e. not-refused _ n e;
+      ordered = λ v. refl;
+      accepts = λ v t. (_, refl);
+      plainly = λ p n e. let z : _≡_ {A = ℕ} 0 1 = cc in absurd (omega arith);
       left = λ p s vs e. unchanged p s;
     }

@@ -6,7 +6,7 @@ use mathlib.Core.List.{List, [], _∷_}
 use lib.Bits.{bitXor, bitOr}
 use borrow.Author.Tests.{le-leb, lt-leb}
 use Rattle.codes.specs.declared.code.Code.{Code}
-use Rattle.codes.specs.Answer.{accepted, refused, Row}
+use Rattle.codes.specs.Answer.{accepted, refused, Row, Passes, Refuses}
 use Rattle.codes.specs.Projection.{Projection}
 use Rattle.codes.specs.Message.{encode}
 use Rattle.codes.specs.Codes.{projection, stepLimit}
@@ -19,8 +19,8 @@ use Rattle.trace.specs.View.{View, countOf, contentOf, messageOf}
 use Rattle.trace.specs.Refusals.{noSlot}
 use Rattle.trace.specs.Rules.{bitRows, refusals, gives}
 use Rattle.trace.specs.Trace.{slotRowsIn, viewIn, trailerRows, refusalsIn, contentAt, stored, onBytes}
-use Rattle.trace.specs.ContractsOfSteps.{Passes, Refuses, FoundAt, callOf, SlotIn, ChangedTo, BitIn}
-use Rattle.trace.proofs.Rows.{unless-passes, unless-refuses, passes-append, refuses-front, refuses-behind}
+use Rattle.trace.specs.ContractsOfSteps.{FoundAt, callOf, SlotIn, ChangedTo, BitIn}
+use Rattle.codes.proofs.Rows.{unless-passes, unless-refuses, passes-append, refuses-front, refuses-behind}
 use Rattle.trace.proofs.Views.{view-code}
 
 -- ---- the rows of each change, by what its slot holds

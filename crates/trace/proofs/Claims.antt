@@ -2,7 +2,9 @@
 pub use Rattle.trace.proofs.Demand1.{demand1}
 pub use Rattle.trace.proofs.Demand2.{demand2}
 pub use Rattle.trace.proofs.Demand3.{demand3, plain-never-meets}
+pub use Rattle.trace.proofs.Strength.{demand3-shuts-out}
 pub use Rattle.trace.proofs.Makings.{makes}
+pub use Rattle.trace.proofs.LayoutExamples.{layout-example}
 pub use Rattle.trace.proofs.Readings.{reads-alone, survey-gives}
 pub use Rattle.trace.proofs.SurveyLaws.{survey-honest}
-pub use Rattle.trace.proofs.Sets.{flip-toggles, mark-adds}
+pub use Rattle.trace.proofs.PlainCalls.{plain-calls, last-put}

@@ -1,5 +1,6 @@
 -- Demand 2: the codes' claims, and the survey's.
-use Rattle.codes.proofs.Claims.{round-trip, one-message, decodes-codewords, eight-apart, one-near, eight-is-far, corrects-near, refuses-far}
+use Rattle.codes.proofs.Claims.{round-trip, one-message, decodes-codewords, calls-round-trip, eight-apart, one-near, eight-is-far}
+use Rattle.codes.proofs.Claims.{corrects-near, refuses-far}
 use Rattle.trace.specs.Claims.{Demand2}
 use Rattle.trace.proofs.SurveyLaws.{survey-honest}
 
@@ -9,6 +10,7 @@ demand2 =
       round-trip = round-trip;
       one-message = one-message;
       decodes-codewords = decodes-codewords;
+      calls-round-trip = calls-round-trip;
       eight-apart = eight-apart;
       one-near = one-near;
       eight-is-far = eight-is-far;

@@ -10,7 +10,7 @@ use native.Mathlib.Omega.{arith}
 use lib.Bits.{bitXor}
 use lib.Dec.{leb}
 use lib.ListN.{length, List·getD-eq-default}
-use borrow.Author.Tests.{le-leb, lt-leb, leb-true, leb-false}
+use borrow.Author.Tests.{lt-leb, leb-true, leb-false}
 use Rattle.codes.specs.declared.code.Code.{Code}
 use Rattle.codes.specs.declared.answer.Correction.{Correction}
 use Rattle.codes.specs.Answer.{refused, unless, mapAnswer}
@@ -18,8 +18,9 @@ use Rattle.codes.specs.Projection.{messageBits}
 use Rattle.codes.specs.Message.{encode}
 use Rattle.codes.specs.Correction.{correct}
 use Rattle.codes.specs.Codes.{projection, codeOf}
-use Rattle.codes.proofs.Rows.{not-refused}
+use Rattle.codes.proofs.Rows.{not-refused, by-table}
 use Rattle.codes.proofs.Laws.{correct-within, correct-eight, correct-none, none-correct, near-correct}
+use Rattle.trace.specs.declared.slot.Content.{Content}
 use Rattle.trace.specs.Answers.{readingValues}
 use Rattle.trace.specs.Calls.{Call, read, Making, run}
 use Rattle.trace.specs.View.{messageOf, readCorrected, readContent}
@@ -31,6 +32,7 @@ use Rattle.trace.proofs.Among.{among-apart}
 use Rattle.trace.proofs.Outcomes.{outcome-same, outcome-refused}
 use Rattle.trace.proofs.Runs.{imagedRun}
 use Rattle.trace.proofs.Views.{plain-code, plain-count, plain-content}
+use Rattle.trace.proofs.Readings.{read-gives}
 use Rattle.trace.proofs.CallFacts.{plainNumbers, facts}
 use Rattle.trace.proofs.Refinement.{step-same, run-same, run-kept}
 use Rattle.trace.proofs.Makings.{fresh-sound, make-accepted}
@@ -56,10 +58,10 @@ read-after c step reading F M r fits =
       eight = λ h. rw (correct-eight c m F M h);
       beyond =
           λ h. (
-            (λ e n near. correct-none c w M (refused-none (correct (projection c) w M) e) n (leb-true _ 7 (near .1))),
-            (λ far. rw (none-correct c w M (λ n hn h. far n (hn, le-leb _ 7 h)))),
+            (λ e. correct-none c w M (refused-none (correct (projection c) w M) e)),
+            (λ far. rw (none-correct c w M far)),
           );
-      otherwise = λ h n near. rw (near-correct c w M n (near .0) (leb-true _ 7 (near .1)));
+      otherwise = λ h x near. rw (near-correct c w M x near);
     }
 
 -- ---- the slot that is read
@@ -78,7 +80,10 @@ module _ (p : Plain) (slot m F M : ℕ) (e : slotOf p slot ≡ Slot.written m F 
 
   read-written : onPlain (read slot) p .answer ≡ mapAnswer readingValues (readCorrected (correct (projectionOf p) (bitXor (encode (projectionOf p) m) F) M))
   unfolding onPlain readContent
-  read-written = rw (outcome-same, plain-count p, lt-leb _ _ written-below, plain-content p slot, e, plain-code p)
+  read-written =
+      let π = projectionOf p in
+      let w = bitXor (encode (projectionOf p) m) F in
+      rw (outcome-same, plain-count p, lt-leb _ _ written-below, plain-content p slot, e, plain-code p) (read-gives π (Content.Written w M))
 
 -- ---- the claims
 
@@ -92,7 +97,7 @@ demand3 found m cs fit =
     let same = run-after found m cs fit in
     let p = plainAfter found m cs in
     let kept = run-kept (m .code) cs (fresh m found) (fresh-sound found m fit) in
-    let left : bytesAfter found m cs ≡ bytes (plainAfter found m cs) = cc same in
+    let left : bytesAfter onBytes found m cs ≡ bytes (plainAfter found m cs) = cc same in
     record {
       making = rw (make-accepted found m fit);
       answers = rw same;
@@ -107,5 +112,7 @@ demand3 found m cs fit =
 pub plain-never-meets : PlainNeverMeets
 unfolding onPlain
 plain-never-meets c p n e k =
-    let u = outcome-refused (unless (refusals c (viewOf p)) (gives c (viewOf p))) (plainLeaves c p) p n e in
-    among-apart plainNumbers (7 ∷ 8 ∷ 10 ∷ []) refl n (facts c .plainly p n (u .0)) k
+    let v = viewOf p in
+    let u = outcome-refused (unless (refusals c v) (gives c v)) (plainLeaves c p) p n e in
+    let met = by-table (refusals c v) (gives c v) (facts c .accepts v) refl .refuses n .0 (u .0) in
+    among-apart plainNumbers (7 ∷ 8 ∷ 10 ∷ []) refl n (facts c .plainly p n met) k

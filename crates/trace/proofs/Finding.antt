@@ -9,7 +9,7 @@ use lib.Dec.{leb}
 use lib.ListN.{length}
 use borrow.Author.Tests.{le-ltb, le-leb, lt-leb, leb-true, eq-eqb, ne-eqb}
 use Rattle.codes.specs.declared.code.Code.{Code}
-use Rattle.codes.specs.Answer.{accepted, refused}
+use Rattle.codes.specs.Answer.{accepted, refused, Passes, Refuses}
 use Rattle.codes.specs.Codes.{isCode, projection}
 use Rattle.trace.specs.declared.layout.Place.{Place}
 use Rattle.trace.specs.declared.layout.Header.{Header}
@@ -19,8 +19,8 @@ use Rattle.trace.specs.View.{countOf, readContent, readAlone}
 use Rattle.trace.specs.Survey.{countsOf, pressures, total, extremes, answersOf, surveyOf}
 use Rattle.trace.specs.Refusals.{isCount, isFit, noSlot}
 use Rattle.trace.specs.Trace.{slotRowsIn, contentAt, viewIn, trailerRows, aloneIn, surveyIn}
-use Rattle.trace.specs.ContractsOfSteps.{Passes, Refuses, Fitting, OpenedAs, Opening, Room, FoundAt}
-use Rattle.trace.proofs.Rows.{refuses-front, refuses-behind, passes-append, unless-passes, unless-refuses}
+use Rattle.trace.specs.ContractsOfSteps.{Fitting, OpenedAs, Opening, Room, FoundAt}
+use Rattle.codes.proofs.Rows.{refuses-front, refuses-behind, passes-append, unless-passes, unless-refuses}
 use Rattle.trace.proofs.Views.{view-code, view-count, view-content}
 
 -- 'N not 1 to 4,000'

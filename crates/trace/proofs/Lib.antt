@@ -1,6 +1,7 @@
--- What the layers above may cite.
+-- What the layers above may cite: the claims, laws made for them, numbers among lists of numbers.
 pub mod Claims
 pub mod Laws
+pub mod Among
 -- Numbers in bytes, and parts of a buffer that are read and written over; exclusive or is associative.
 mod Numbers
 mod Parts
@@ -8,8 +9,8 @@ mod Xor
 -- The layout, for any slots' bytes: what is read at a slot's place and what storing there makes of them; the trailer.
 mod Slots
 mod Trailers
--- Tables of refusals: the first row that is met; what an answer leaves.
-mod Rows
+mod LayoutExamples
+-- What an answer leaves.
 mod Outcomes
 -- The steps of a call: what it sees of a buffer, how it comes to its slot, what the slot holds, what it takes from the word calls, a change.
 mod Views
@@ -25,13 +26,17 @@ mod SurveyLaws
 -- The plain trace beside the bytes: what its bytes hold, its slots, one table with what is special to each call, any call, any list of calls.
 mod Stored
 mod PlainSlots
-mod Among
 mod CallFacts
 mod Runs
 mod Refinement
 mod Makings
+-- What calls make of the plain trace, and its sets.
 mod Sets
--- The demands.
+mod PlainCalls
+-- The demands; when each row of demand 1's tables is met.
+mod TraceRows
 mod Demand1
 mod Demand2
 mod Demand3
+-- What demand 3 shuts out.
+mod Strength

@@ -33,7 +33,7 @@ blank-slots π (suc n) =
     let more : distanceOf (suc n) ≡ slotSize + distanceOf n = omega arith in
     rw (blank-slots π n, bytes-zero 1, bytes-zero 5, more) (replicate-append-replicate slotSize (distanceOf n) 0)
 
-all-blank : (n i : ℕ) → getD (replicate n Slot.blank) i Slot.blank ≡ Slot.blank
+pub all-blank : (n i : ℕ) → getD (replicate n Slot.blank) i Slot.blank ≡ Slot.blank
 all-blank zero i = refl
 all-blank (suc n) zero = refl
 all-blank (suc n) (suc i) = all-blank n i

@@ -10,7 +10,7 @@ use Rattle.trace.specs.Rules.{refusals, gives}
 use Rattle.trace.specs.Trace.{viewIn, trailerRows, leaves, onBytes}
 use Rattle.trace.specs.Plain.{Plain, viewOf, bytes, plainLeaves, onPlain}
 use Rattle.trace.proofs.Outcomes.{outcome-holds}
-use Rattle.trace.proofs.Rows.{unless-behind}
+use Rattle.codes.proofs.Rows.{unless-behind}
 use Rattle.trace.proofs.Runs as runs
 use Rattle.trace.proofs.Runs.{imaged, imagedRun}
 use Rattle.trace.proofs.Stored.{Sound, opens, seen-alike}

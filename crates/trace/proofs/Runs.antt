@@ -1,7 +1,7 @@
 -- Two machines run the same list of calls, and each state of the one is the image of a state of the other. If every single call answers alike
 -- and leaves the image, so does every list of calls, and what each call keeps, the list keeps. By induction on the list.
 use mathlib.Core.Path.{_≡_, refl}
-use mathlib.Core.List.{List, [], _∷_}
+use mathlib.Core.List.{List, [], _∷_, _++_}
 use Rattle.trace.specs.Calls.{After, after, Run, run}
 
 -- what a call, and what a list of calls, leaves, seen through a map of states
@@ -11,6 +11,13 @@ module _ {S T : Type 0} (image : T → S) where
 
   abbrev pub imagedRun : Run T → Run S
   imagedRun r = record { answers = r .answers; state = image (r .state) }
+
+-- a list of calls behind another
+pub run-append : {C S : Type 0} (step : C → S → After S) (cs ds : List C) (s : S)
+    → run step (cs ++ ds) s .state ≡ run step ds (run step cs s .state) .state
+unfolding run
+run-append step [] ds s = refl
+run-append step (c ∷ cs) ds s = run-append step cs ds (step c s .state)
 
 -- what each call keeps
 module _ {C T : Type 0} (step : C → T → After T) (Inv : T → Type 0) (kept : (c : C) (t : T) → Inv t → Inv (step c t .state)) where

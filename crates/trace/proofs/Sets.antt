@@ -10,9 +10,9 @@ use lib.Pow.{pow-add, pow-lt, pow-pos, shl-shr}
 use lib.Arith.{bin-ind}
 use lib.Bits.{bitXor, bitOr, differ, xor-shr, or-shr, or-step, or-zero-l, or-self}
 use borrow.Author.Tests.{leb-true, leb-false}
-use Rattle.codes.specs.Projection.{width}
+use Rattle.codes.specs.Projection.{Projection, width}
 use Rattle.codes.specs.Word.{bit}
-use Rattle.trace.specs.Claims.{FlipToggles, MarkAdds}
+use Rattle.trace.specs.Claims.{Toggled, Added}
 use Rattle.trace.proofs.Xor.{lowest}
 
 -- the digits of a power of two
@@ -43,21 +43,21 @@ max-twice : (x y : ℕ) → max (max x y) y ≡ max x y
 max-twice x y = omega arith
 
 -- what is added stays, if it is added again
-or-twice : (a b : ℕ) → bitOr (bitOr a b) b ≡ bitOr a b
+pub or-twice : (a b : ℕ) → bitOr (bitOr a b) b ≡ bitOr a b
 or-twice =
     bin-ind (λ (n : ℕ). (b : ℕ) → bitOr (bitOr n b) b ≡ bitOr n b) (λ b. rw (or-zero-l b) (or-self b))
     (λ n ih b. cc (or-step (bitOr n b) b, or-half n b, or-lowest n b, or-step n b, ih (b / 2), max-twice (n % 2) (b % 2)))
 
 -- a digit that exclusive or toggles, and one that it keeps
-toggled : (x : ℕ) → x < 2 → differ x 1 ≡ 1 - x
-toggled zero h = refl
-toggled (suc zero) h = refl
-toggled (suc (suc x)) h = absurd (omega arith)
+differ-one : (x : ℕ) → x < 2 → differ x 1 ≡ 1 - x
+differ-one zero h = refl
+differ-one (suc zero) h = refl
+differ-one (suc (suc x)) h = absurd (omega arith)
 
-kept : (x : ℕ) → x < 2 → differ x 0 ≡ x
-kept zero h = refl
-kept (suc zero) h = refl
-kept (suc (suc x)) h = absurd (omega arith)
+differ-zero : (x : ℕ) → x < 2 → differ x 0 ≡ x
+differ-zero zero h = refl
+differ-zero (suc zero) h = refl
+differ-zero (suc (suc x)) h = absurd (omega arith)
 
 -- at the position of a bit, and at another
 module _ (set j k : ℕ) where
@@ -65,10 +65,10 @@ module _ (set j k : ℕ) where
   digit-lt = omega arith
 
   xor-own : j ≡ k → bitXor set (2 ^ j) / 2 ^ k % 2 ≡ 1 - set / 2 ^ k % 2
-  xor-own e = rw (e, xor-shr set (2 ^ k) k, lowest (set / 2 ^ k) (2 ^ k / 2 ^ k), own-digit k) (toggled (set / 2 ^ k % 2) digit-lt)
+  xor-own e = rw (e, xor-shr set (2 ^ k) k, lowest (set / 2 ^ k) (2 ^ k / 2 ^ k), own-digit k) (differ-one (set / 2 ^ k % 2) digit-lt)
 
   xor-other : (j ≡ k → ⊥) → bitXor set (2 ^ j) / 2 ^ k % 2 ≡ set / 2 ^ k % 2
-  xor-other h = rw (xor-shr set (2 ^ j) k, lowest (set / 2 ^ k) (2 ^ j / 2 ^ k), other-digit j k h) (kept (set / 2 ^ k % 2) digit-lt)
+  xor-other h = rw (xor-shr set (2 ^ j) k, lowest (set / 2 ^ k) (2 ^ j / 2 ^ k), other-digit j k h) (differ-zero (set / 2 ^ k % 2) digit-lt)
 
   or-own : j ≡ k → bitOr set (2 ^ j) / 2 ^ k % 2 ≡ 1
   or-own e = rw (e, or-shr set (2 ^ k) k, or-lowest (set / 2 ^ k) (2 ^ k / 2 ^ k), own-digit k) (omega (arith, digit-lt))
@@ -80,10 +80,17 @@ module _ (set j k : ℕ) where
 same-bit : (w i j : ℕ) → i < w → j < w → w - 1 - i ≡ w - 1 - j → j ≡ i
 same-bit w i j hi hj e = omega arith
 
-pub flip-toggles : FlipToggles
-flip-toggles π F position other hp ho =
-    (xor-own F _ _ refl, λ differs. xor-other F _ _ (λ e. differs (same-bit (width π) position other hp ho e)))
+module _ (π : Projection) (position set : ℕ) (inside : position < width π) where
+  pub toggled : Toggled π position set (bitXor set (bit π position))
+  toggled =
+      record {
+        own = xor-own set _ _ refl;
+        others = λ other there differs. xor-other set _ _ (λ e. differs (same-bit (width π) position other inside there e));
+      }
 
-pub mark-adds : MarkAdds
-mark-adds π M position other hp ho =
-    (or-own M _ _ refl, λ differs. or-other M _ _ (λ e. differs (same-bit (width π) position other hp ho e)), or-twice M (bit π position))
+  pub added : Added π position set (bitOr set (bit π position))
+  added =
+      record {
+        own = or-own set _ _ refl;
+        others = λ other there differs. or-other set _ _ (λ e. differs (same-bit (width π) position other inside there e));
+      }

@@ -11,6 +11,7 @@ use lib.Pow.{pow-mono, pow-pos}
 use lib.Bits.{xor-lt}
 use borrow.Author.Tests.{le-ltb, lt-leb, le-leb, eq-eqb}
 use Rattle.codes.specs.declared.code.Code.{Code}
+use Rattle.codes.specs.Answer.{Passes}
 use Rattle.codes.specs.Projection.{Projection, width, messageBits}
 use Rattle.codes.specs.Message.{encode}
 use Rattle.codes.specs.Codes.{isCode, codeOf, projection}
@@ -21,7 +22,6 @@ use Rattle.trace.specs.Layout.{trailer, trailerAt, distanceIn, countIn, 
 use Rattle.trace.specs.Refusals.{isCount, isFit, isBad}
 use Rattle.trace.specs.Trace.{projectionIn, contentWith, contentAt, viewIn, trailerRows, stored}
 use Rattle.trace.specs.Plain.{Slot, Plain, projectionOf, slotOf, withSlot, holds, viewOf, storedAs, bytes}
-use Rattle.trace.specs.ContractsOfSteps.{Passes}
 use Rattle.trace.proofs.Numbers.{length-bytes, number-bytes}
 use Rattle.trace.proofs.Slots.{Sized, AllSized, length-body, state-part, word-part, marks-part, store-body}
 use Rattle.trace.proofs.Trailers.{length-trailer, ended-at, ended-distance, ended-count, ended-code, ended-edition}

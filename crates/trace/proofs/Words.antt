@@ -1,6 +1,6 @@
 -- What a trace takes from the word calls: a fit step and reading are a fit message, which is encoded; a fit word under fit marks is corrected.
 -- The step limit times 4096 is the message limit, and word calls whose numbers fit meet none of their other refusals.
-use Prim.Native.Nat.{ℕ, _+_, _-_, _*_, _/_, _%_, _^_, _<_, _≤_}
+use Prim.Native.Nat.{ℕ, _+_, _-_, _*_, _/_, _^_, _<_, _≤_}
 use mathlib.Core.Path.{_≡_, sym, ap, _∙_}
 use mathlib.Core.List.{[], _∷_}
 use native.Mathlib.Omega.{arith}
@@ -14,7 +14,7 @@ use Rattle.codes.specs.Correction.{correct}
 use Rattle.codes.specs.Codes.{projection, stepLimit, correctionValues, encoding, correcting}
 use Rattle.codes.proofs.Rows.{not-refused}
 use Rattle.codes.proofs.Laws.{bits-le, steps, encoding-fits, correcting-fits, answer-near, answer-none}
-use Rattle.trace.specs.View.{messageOf, readCorrected}
+use Rattle.trace.specs.View.{messageOf, readingOf, readCorrected}
 
 -- a fit step and reading make a fit message
 pub message-lt : (c : Code) (step reading : ℕ) → step < stepLimit (projection c) → reading < 4096 → messageOf step reading < 2 ^ messageBits (projection c)
@@ -37,7 +37,7 @@ module _ (π : Projection) (m : ℕ) (fits : m < 2 ^ messageBits π) where
 -- a read of a fit word under fit marks gives what mending gives, its message split
 module _ (π : Projection) (w m : ℕ) (word-fits : w < 2 ^ width π) (marks-fit : m < 2 ^ width π) where
   pub read-near : (c : Correction) → accepted (correctionValues c) ≡ correcting π w m
-      → accepted (record { step = c .message / 4096; reading = c .message % 4096; wrong = c .wrong; marks = c .marks }) ≡ readCorrected (correct π w m)
+      → accepted (readingOf c) ≡ readCorrected (correct π w m)
   unfolding readCorrected
   read-near c e = rw (answer-near (correct π w m) c (e ∙ correcting-fits π w m word-fits marks-fit))
 

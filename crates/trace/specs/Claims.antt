@@ -1,47 +1,87 @@
 -- What is claimed of a trace, in the words of the demands and of document 01. Each claim is a theorem of the same name, in lower case, in proofs/.
 use mathlib.Core.Path.{_≡_}
 use mathlib.Core.Bool.{true}
-use mathlib.Core.Logic.{_↔_}
-use mathlib.Core.List.{List, [], _∷_}
-use Prim.Native.Nat.{ℕ, _+_, _-_, _*_, _/_, _%_, _^_, _<_, _≤_}
-use lib.Bits.{bitXor, bitOr}
-use lib.ListN.{length}
-use Rattle.codes.specs.Answer.{Answer, accepted, refused, mapAnswer}
-use Rattle.codes.specs.Projection.{Projection, width, messageBits}
-use Rattle.codes.specs.Word.{word, bit, bitAt}
+use mathlib.Core.Logic.{_⊎_, _↔_}
+use mathlib.Core.List.{List, [], _∷_, _++_}
+use Prim.Native.Nat.{ℕ, zero, suc, _+_, _-_, _*_, _^_, _<_, _≤_}
+use lib.Bits.{bitXor}
+use lib.ListN.{length, replicate}
+use Rattle.codes.specs.Answer.{Answer, accepted, refused, mapAnswer, Row}
+use Rattle.codes.specs.Projection.{Projection, width}
+use Rattle.codes.specs.Word.{word, bitAt}
 use Rattle.codes.specs.Message.{encode}
-use Rattle.codes.specs.Correction.{outside, ones, wrong, isNear}
-use Rattle.codes.specs.Claims.{RoundTrip, OneMessage, DecodesCodewords, EightApart, OneNear, EightIsFar, CorrectsNear, RefusesFar, Among, WordCallsRefuse}
-use Rattle.codes.specs.Codes.{isCode, codeOf, projection}
+use Rattle.codes.specs.Correction.{outside, ones, Near, correctionOf}
+use Rattle.codes.specs.Claims.{RoundTrip, OneMessage, DecodesCodewords, CallsRoundTrip, EightApart, OneNear, EightIsFar, CorrectsNear, RefusesFar}
+use Rattle.codes.specs.Claims.{Among, ByTable, WordCallsRefuse, WordRowsMean}
+use Rattle.codes.specs.declared.code.Code.{Code}
+use Rattle.codes.specs.Codes.{isCode, codeOf, projection, stepLimit}
 use Rattle.trace.specs.declared.answer.Reading.{Reading}
+use Rattle.trace.specs.declared.answer.Pressures.{Pressures}
+use Rattle.trace.specs.declared.slot.Content.{Content}
+use Rattle.trace.specs.declared.status.Status.{Status}
 use Rattle.trace.specs.Layout.{neededFor, countIn, freeFor}
 use Rattle.trace.specs.Answers.{readingValues, pressuresValues, surveyValues}
 use Rattle.trace.specs.Calls.{Call, put, flip, mark, clear, read, survey, Making, After, run}
-use Rattle.trace.specs.Refusals.{isCount}
-use Rattle.trace.specs.View.{messageOf}
-use Rattle.trace.specs.Survey.{pressures, total, extremes, surveyed}
-use Rattle.trace.specs.Trace.{viewIn, onBytes, make, aloneIn, surveyIn}
-use Rattle.trace.specs.Plain.{Slot, Plain, slotOf, bytes, fresh, onPlain}
+use Rattle.trace.specs.Refusals.{isCount, wrongCount, tooShort, trailerUnfit, noSlot, badSlot, blankSlot, lostSlot, noPosition, tooLarge}
+use Rattle.trace.specs.View.{contentOf, readingOf}
+use Rattle.trace.specs.Survey.{statusOf, count, pressures, total, extremes}
+use Rattle.trace.specs.Trace.{contentWith, viewIn, short, refusalsIn, stored, onBytes, makeRows, make, aloneIn, surveyIn}
+use Rattle.trace.specs.Plain.{Slot, Plain, projectionOf, slotOf, bytes, fresh, marked, onPlain}
 
 -- ---- demand 1
 
--- the numbers that document 01's table gives a call
+-- the numbers that document 01's table gives a call, and a making, in the order in which they are tried
 abbrev pub numbersOf : Call → List ℕ
 numbersOf (put slot step reading) = 7 ∷ 8 ∷ 9 ∷ 13 ∷ []
 numbersOf (flip slot position) = 7 ∷ 8 ∷ 9 ∷ 10 ∷ 11 ∷ 12 ∷ []
 numbersOf (mark slot position) = 7 ∷ 8 ∷ 9 ∷ 10 ∷ 11 ∷ 12 ∷ []
 numbersOf (clear slot) = 7 ∷ 8 ∷ 9 ∷ []
-numbersOf (read slot) = 5 ∷ 7 ∷ 8 ∷ 9 ∷ 10 ∷ 11 ∷ []
+numbersOf (read slot) = 7 ∷ 8 ∷ 9 ∷ 10 ∷ 11 ∷ 5 ∷ []
 numbersOf survey = 7 ∷ 8 ∷ []
 
--- 'Unfit input gets one of the thirteen refusal numbers of document 01, returns nothing else, and changes no lent byte'
-abbrev pub Harmless : List ℕ → List ℕ → After (List ℕ) → Type 0
-Harmless numbers b r = (n : ℕ) → r .answer ≡ refused n → Among n numbers × (r .state ≡ b)
+abbrev pub makingNumbers : List ℕ
+makingNumbers = 1 ∷ 6 ∷ 7 ∷ []
+
+-- 'Unfit input gets one of the thirteen refusal numbers of document 01, returns nothing else, and changes no lent byte': an answer by a table
+-- with these numbers, in this order, and the bytes as they were where it is a refusal
+pub record Harmless (order : List ℕ) (rows : List Row) (b : List ℕ) (r : After (List ℕ)) : Type 0 where
+  pub answer : ByTable order rows (r .answer)
+  pub unchanged : (n : ℕ) → r .answer ≡ refused n → r .state ≡ b
+
+-- when each row of the trace calls is met, in the words of document 01's table
+pub record TraceRowsMean : Type 0 where
+  -- 6: 'N not 1 to 4,000'
+  pub wrong-count : (n : ℕ) → (wrongCount n .met ≡ true ↔ ((1 ≤ n) × (n ≤ 4000) → ⊥))
+  -- 7: 'buffer under 8 bytes; making: under 11·N + 8'
+  pub buffer-short : (b : List ℕ) → (short b .met ≡ true ↔ length b < 8)
+  pub no-room : (n : ℕ) (b : List ℕ) → (tooShort (length b) (neededFor n) .met ≡ true ↔ length b < 11 * n + 8)
+  -- 8: 'edition, code, N or distance unfit, or distance beyond the bytes before the trailer'
+  pub trailer-unfit : (before distance n code edition : ℕ)
+      → (trailerUnfit before distance n code edition .met ≡ true
+      ↔ ((edition ≡ 1) × (((1 ≤ code) × (code ≤ 4)) × (((1 ≤ n) × (n ≤ 4000)) × ((distance ≡ 11 * n) × (distance ≤ before)))) → ⊥))
+  -- 9: 'slot N or more'
+  pub no-slot : (n slot : ℕ) → (noSlot n slot .met ≡ true ↔ n ≤ slot)
+  -- 10: 'named slot has another state, a set unused bit, or is blank and not zero'
+  pub bad-slot : (π : Projection) (state word marks : ℕ)
+      → (badSlot (contentWith π state word marks) .met ≡ true
+      ↔ ((2 ≤ state) ⊎ ((2 ^ width π ≤ word) ⊎ ((2 ^ width π ≤ marks) ⊎ ((state ≡ 0) × ((word ≡ 0) × (marks ≡ 0) → ⊥))))))
+  -- 11: 'slot blank'; 'A blank slot is all zero'
+  pub blank-slot : (π : Projection) (state word marks : ℕ)
+      → (blankSlot (contentWith π state word marks) .met ≡ true ↔ (state ≡ 0) × ((word ≡ 0) × (marks ≡ 0)))
+  -- 5 on a read: 'no near codeword'
+  pub lost-slot : (c : Code) (word marks : ℕ)
+      → (lostSlot (projection c) (Content.Written word marks) .met ≡ true ↔ ((x : ℕ) → Near (projection c) word marks x → ⊥))
+  -- 12: 'position not in the word'
+  pub no-position : (π : Projection) (position : ℕ) → (noPosition π position .met ≡ true ↔ width π ≤ position)
+  -- 13: 'step or reading too large'
+  pub too-large : (π : Projection) (step reading : ℕ) → (tooLarge π step reading .met ≡ true ↔ (stepLimit π ≤ step) ⊎ (4096 ≤ reading))
 
 pub record Demand1 : Type 0 where
-  pub calls : (c : Call) (b : List ℕ) → Harmless (numbersOf c) b (onBytes c b)
-  pub makings : (m : Making) (b : List ℕ) → Harmless (1 ∷ 6 ∷ 7 ∷ []) b (make m b)
+  pub calls : (c : Call) (b : List ℕ) → Harmless (numbersOf c) (refusalsIn c b) b (onBytes c b)
+  pub makings : (m : Making) (b : List ℕ) → Harmless makingNumbers (makeRows m b) b (make m b)
   pub words : WordCallsRefuse
+  pub word-rows : WordRowsMean
+  pub trace-rows : TraceRowsMean
 
 -- ---- making
 
@@ -59,6 +99,18 @@ Makes =
     × (MakeFit found m
     → (length (make m found .state) ≡ length found) × (freeFor (m .slots) (make m found .state) ≡ freeFor (m .slots) found))
 
+-- ---- the layout, byte for byte
+
+-- a trace of one slot, made under code 2 in 21 bytes, then with word 123456789 (hexadecimal) under marks A in its slot: free bytes, the slot's
+-- state, word and marks, then distance, N, code and edition, 'high byte first'
+abbrev pub exampleBytes : List ℕ → List ℕ
+exampleBytes slot = 0xFF ∷ 0xFF ∷ (slot ++ (0 ∷ 0 ∷ 0 ∷ 11 ∷ 0 ∷ 1 ∷ 2 ∷ 1 ∷ []))
+
+pub record LayoutExample : Type 0 where
+  pub made : make (record { code = 2; slots = 1 }) (replicate 21 0xFF) .state ≡ exampleBytes (replicate 11 0)
+  pub stored : stored 0 (Content.Written 0x123456789 0xA) (exampleBytes (replicate 11 0))
+      ≡ exampleBytes (1 ∷ 0x01 ∷ 0x23 ∷ 0x45 ∷ 0x67 ∷ 0x89 ∷ 0 ∷ 0 ∷ 0 ∷ 0 ∷ 0xA ∷ [])
+
 -- ---- demand 3
 
 -- 'twice the bits that now differ unmarked plus the marks': 'The bits that now differ unmarked are those in F and not in M; the marks are those in M'
@@ -68,24 +120,24 @@ unmarked π F M = outside (word π F) (word π M)
 abbrev pub sum : Projection → ℕ → ℕ → ℕ
 sum π F M = 2 * unmarked π F M + ones π M
 
--- a message whose codeword is near to a word under marks
-abbrev pub NearMessage : Projection → ℕ → ℕ → ℕ → Type 0
-NearMessage π w M message = (message < 2 ^ messageBits π) × (isNear π w M (encode π message) ≡ true)
-
 -- what the read of a slot gives that has a step's and a reading's message, F and M; w is 'the message's codeword with F inverted'
 pub record ReadAfter (π : Projection) (step reading F M w : ℕ) (a : Answer (List ℕ)) : Type 0 where
   -- 'gives the step and reading last put there, and no other, while [the sum] is at most 7'
-  pub within : sum π F M ≤ 7 → a ≡ accepted (step ∷ reading ∷ unmarked π F M ∷ ones π M ∷ [])
+  pub within : sum π F M ≤ 7
+      → a ≡ accepted (readingValues (record { step = step; reading = reading; wrong = unmarked π F M; marks = ones π M }))
   -- 'Where that sum is exactly 8 the read refuses'
   pub eight : sum π F M ≡ 8 → a ≡ refused 5
   -- 'Beyond it, the read refuses exactly when no codeword is near, and otherwise gives the near one's step and reading'
-  pub beyond : 8 < sum π F M → (a ≡ refused 5 ↔ ((message : ℕ) → NearMessage π w M message → ⊥))
-  pub otherwise : 8 < sum π F M → (message : ℕ) → NearMessage π w M message
-      → a ≡ accepted (message / 4096 ∷ message % 4096 ∷ wrong π w M (encode π message) ∷ ones π M ∷ [])
+  pub beyond : 8 < sum π F M → (a ≡ refused 5 ↔ ((x : ℕ) → Near π w M x → ⊥))
+  pub otherwise : 8 < sum π F M → (x : ℕ) → Near π w M x → a ≡ accepted (readingValues (readingOf (correctionOf π w M x)))
+
+-- what calls answer and leave of a buffer's bytes, rightly or wrongly
+abbrev pub Machine : Type 0
+Machine = Call → List ℕ → After (List ℕ)
 
 -- the buffer, and the plain trace, after a making and a list of calls
-abbrev pub bytesAfter : List ℕ → Making → List Call → List ℕ
-bytesAfter found m calls = run onBytes calls (make m found .state) .state
+abbrev pub bytesAfter : Machine → List ℕ → Making → List Call → List ℕ
+bytesAfter machine found m calls = run machine calls (make m found .state) .state
 
 abbrev pub plainAfter : List ℕ → Making → List Call → Plain
 plainAfter found m calls = run onPlain calls (fresh m found) .state
@@ -95,19 +147,44 @@ abbrev pub codeMade : Making → Projection
 codeMade m = projection (codeOf (m .code))
 
 -- a trace that was made in a buffer and then took a list of calls, beside the plain trace, which is fed the buffer found, the numbers and the list
-pub record Follows (found : List ℕ) (m : Making) (calls : List Call) : Type 0 where
+pub record Follows (machine : Machine) (found : List ℕ) (m : Making) (calls : List Call) : Type 0 where
   pub making : make m found .answer ≡ accepted []
   -- 'every answer in it and every byte of the buffer after it equal those of the plain trace'
-  pub answers : run onBytes calls (make m found .state) .answers ≡ run onPlain calls (fresh m found) .answers
-  pub left : bytesAfter found m calls ≡ bytes (plainAfter found m calls)
+  pub answers : run machine calls (make m found .state) .answers ≡ run onPlain calls (fresh m found) .answers
+  pub left : bytesAfter machine found m calls ≡ bytes (plainAfter found m calls)
   -- 'a read after it of a written slot'
   pub reads : (slot step reading F M : ℕ) → reading < 4096
-      → slotOf (plainAfter found m calls) slot ≡ Slot.written (messageOf step reading) F M
-      → ReadAfter (codeMade m) step reading F M (bitXor (encode (codeMade m) (messageOf step reading)) F)
-      (onBytes (read slot) (bytesAfter found m calls) .answer)
+      → slotOf (plainAfter found m calls) slot ≡ Slot.written (step * 4096 + reading) F M
+      → ReadAfter (codeMade m) step reading F M (bitXor (encode (codeMade m) (step * 4096 + reading)) F)
+      (machine (read slot) (bytesAfter machine found m calls) .answer)
+
+-- what demand 3 asks of a machine, and that the calls are such a one
+abbrev pub Demanded3 : Machine → Type 0
+Demanded3 machine = (found : List ℕ) (m : Making) (calls : List Call) → MakeFit found m → Follows machine found m calls
 
 abbrev pub Demand3 : Type 0
-Demand3 = (found : List ℕ) (m : Making) (calls : List Call) → MakeFit found m → Follows found m calls
+Demand3 = Demanded3 onBytes
+
+-- a put that changes no byte of a trace that was made and took calls, whatever it answers
+abbrev pub PutsNothing : Machine → List ℕ → Making → List Call → Type 0
+PutsNothing machine found m calls =
+    (slot step reading : ℕ) → machine (put slot step reading) (bytesAfter machine found m calls) .state ≡ bytesAfter machine found m calls
+
+-- 'a put that stores nothing'
+abbrev pub StoresNothing : Machine → Type 0
+StoresNothing machine = (found : List ℕ) (m : Making) (calls : List Call) → MakeFit found m → PutsNothing machine found m calls
+
+-- 'a trace that obeys the first put and afterwards only says yes': once a slot of it is written
+abbrev pub OnlySaysYes : Machine → Type 0
+OnlySaysYes machine =
+    (found : List ℕ) (m : Making) (calls : List Call) → MakeFit found m
+    → (written word marks : ℕ) → contentOf (viewIn (bytesAfter machine found m calls)) written ≡ Content.Written word marks
+    → PutsNothing machine found m calls
+
+-- 'Demand 3 shuts out' both, whatever else they do
+pub record Demand3ShutsOut : Type 0 where
+  pub stores-nothing : (machine : Machine) → StoresNothing machine → Demanded3 machine → ⊥
+  pub only-says-yes : (machine : Machine) → OnlySaysYes machine → Demanded3 machine → ⊥
 
 -- a read gives, in the paper's values, what the named slot alone gives, whatever the buffer holds: so what is claimed of a read is claimed of
 -- what survey and listing take from a slot
@@ -122,45 +199,128 @@ SurveyGives = (b : List ℕ) → onBytes survey b .answer ≡ mapAnswer surveyVa
 abbrev pub PlainNeverMeets : Type 0
 PlainNeverMeets = (c : Call) (p : Plain) (n : ℕ) → onPlain c p .answer ≡ refused n → Among n (7 ∷ 8 ∷ 10 ∷ []) → ⊥
 
--- ---- the plain trace's sets: words whose ones are their positions
+-- ---- what calls make of the plain trace
 
--- 'flip moves a position into F or out of it', and no other
-abbrev pub FlipToggles : Type 0
-FlipToggles =
-    (π : Projection) (F position other : ℕ) → position < width π → other < width π
-    → (bitAt π (bitXor F (bit π position)) position ≡ 1 - bitAt π F position)
-    × ((other ≡ position → ⊥) → bitAt π (bitXor F (bit π position)) other ≡ bitAt π F other)
+-- a slot became another, and nothing else changed
+pub record SlotBecame (p : Plain) (slot : ℕ) (s : Slot) (q : Plain) : Type 0 where
+  pub own : slotOf q slot ≡ s
+  pub others : (other : ℕ) → (other ≡ slot → ⊥) → slotOf q other ≡ slotOf p other
+  pub count : length (q .slots) ≡ length (p .slots)
+  pub code : q .code ≡ p .code
+  pub free : q .free ≡ p .free
 
--- 'mark adds to M' that position, and no other; 'a second mark changes nothing'
-abbrev pub MarkAdds : Type 0
-MarkAdds =
-    (π : Projection) (M position other : ℕ) → position < width π → other < width π
-    → (bitAt π (bitOr M (bit π position)) position ≡ 1)
-    × ((other ≡ position → ⊥) → bitAt π (bitOr M (bit π position)) other ≡ bitAt π M other)
-    × (bitOr (bitOr M (bit π position)) (bit π position) ≡ bitOr M (bit π position))
+-- sets are words whose ones are their positions: a position was moved into a set or out of it, and no other
+pub record Toggled (π : Projection) (position set set′ : ℕ) : Type 0 where
+  pub own : bitAt π set′ position ≡ 1 - bitAt π set position
+  pub others : (other : ℕ) → other < width π → (other ≡ position → ⊥) → bitAt π set′ other ≡ bitAt π set other
+
+-- a position was added to a set, and no other
+pub record Added (π : Projection) (position set set′ : ℕ) : Type 0 where
+  pub own : bitAt π set′ position ≡ 1
+  pub others : (other : ℕ) → other < width π → (other ≡ position → ⊥) → bitAt π set′ other ≡ bitAt π set other
+
+pub record PlainCalls : Type 0 where
+  -- 'the plain trace then has N blank slots'
+  pub made : (found : List ℕ) (m : Making) → (length (fresh m found .slots) ≡ m .slots) × ((slot : ℕ) → slotOf (fresh m found) slot ≡ Slot.blank)
+  -- a blank slot can't be read, flipped or marked
+  pub blanks : (p : Plain) (slot position : ℕ) → slot < length (p .slots) → slotOf p slot ≡ Slot.blank
+      → (onPlain (read slot) p .answer ≡ refused 11)
+      × ((onPlain (flip slot position) p .answer ≡ refused 11) × (onPlain (mark slot position) p .answer ≡ refused 11))
+  -- 'Put empties both'
+  pub puts : (p : Plain) (slot step reading : ℕ) → onPlain (put slot step reading) p .answer ≡ accepted []
+      → SlotBecame p slot (Slot.written (step * 4096 + reading) 0 0) (onPlain (put slot step reading) p .state)
+  -- 'flip moves a position into F or out of it'
+  pub flips : (p : Plain) (slot position m F M : ℕ) → slotOf p slot ≡ Slot.written m F M → onPlain (flip slot position) p .answer ≡ accepted []
+      → (F′ : ℕ) × Toggled (projectionOf p) position F F′ × SlotBecame p slot (Slot.written m F′ M) (onPlain (flip slot position) p .state)
+  -- 'mark adds to M'
+  pub marks : (p : Plain) (slot position m F M : ℕ) → slotOf p slot ≡ Slot.written m F M → onPlain (mark slot position) p .answer ≡ accepted []
+      → (M′ : ℕ) × Added (projectionOf p) position M M′ × SlotBecame p slot (Slot.written m F M′) (onPlain (mark slot position) p .state)
+  -- 'a second mark changes nothing'
+  pub again : (π : Projection) (position : ℕ) (s : Slot) → marked π position (marked π position s) ≡ marked π position s
+  -- 'clear blanks'
+  pub clears : (p : Plain) (slot : ℕ) → onPlain (clear slot) p .answer ≡ accepted [] → SlotBecame p slot Slot.blank (onPlain (clear slot) p .state)
+  -- reads and surveys change nothing; 'Refused calls change nothing'
+  pub reads : (p : Plain) (slot : ℕ) → onPlain (read slot) p .state ≡ p
+  pub surveys : (p : Plain) → onPlain survey p .state ≡ p
+  pub refusals : (c : Call) (p : Plain) (n : ℕ) → onPlain c p .answer ≡ refused n → onPlain c p .state ≡ p
+
+-- a call that puts into a slot, or clears it
+abbrev pub Overwrites : ℕ → Call → Type 0
+Overwrites slot (put other step reading) = other ≡ slot
+Overwrites slot (clear other) = other ≡ slot
+Overwrites slot (flip other position) = ⊥
+Overwrites slot (mark other position) = ⊥
+Overwrites slot (read other) = ⊥
+Overwrites slot survey = ⊥
+
+-- of a list of calls, those that would overwrite a slot are refused
+abbrev pub Kept : ℕ → List Call → Plain → Type 0
+Kept slot [] p = Unit {0}
+Kept slot (c ∷ cs) p = (Overwrites slot c → (n : ℕ) × (onPlain c p .answer ≡ refused n)) × Kept slot cs (onPlain c p .state)
+
+-- 'the step and reading last put there': a slot has them where a put of them was accepted, and no call behind it overwrote the slot
+abbrev pub LastPut : Type 0
+LastPut =
+    (found : List ℕ) (m : Making) (before behind : List Call) (slot step reading : ℕ)
+    → onPlain (put slot step reading) (plainAfter found m before) .answer ≡ accepted []
+    → Kept slot behind (onPlain (put slot step reading) (plainAfter found m before) .state)
+    → (F M : ℕ) × (slotOf (plainAfter found m (before ++ (put slot step reading ∷ behind))) slot ≡ Slot.written (step * 4096 + reading) F M)
 
 -- ---- the survey
 
--- the readings that reads of a buffer's slots give, but for 4095
+-- what reads of a buffer's first n slots answer, and of all its slots
+unfoldable pub readsBelow : List ℕ → ℕ → List (Answer Reading)
+readsBelow b zero = []
+readsBelow b (suc n) = aloneIn b n ∷ readsBelow b n
+
+abbrev pub readsIn : List ℕ → List (Answer Reading)
+readsIn b = readsBelow b (countIn b)
+
+-- the number of slots that have a status by what a read of each answers, and the pressures that these reads give
+abbrev pub slotsIn : List ℕ → Status → ℕ
+slotsIn b s = count s (readsIn b)
+
 abbrev pub pressuresIn : List ℕ → List ℕ
-pressuresIn b = pressures (surveyed (viewIn b))
+pressuresIn b = pressures (readsIn b)
+
+-- what a slot's status says of the answer of its read: 'blank, read (0 to 4094), over (4095), lost (refusal 5) or bad (refusal 10)'
+abbrev pub Means : Status → Answer Reading → Type 0
+Means Status.Blank a = a ≡ refused 11
+Means Status.Read a = (v : Reading) × (a ≡ accepted v) × (v .reading ≤ 4094)
+Means Status.Over a = (v : Reading) × (a ≡ accepted v) × (v .reading ≡ 4095)
+Means Status.Lost a = a ≡ refused 5
+Means Status.Bad a = a ≡ refused 10
+
+-- smallest, largest and mean of pressures: two of them that bound all, and 'mean (rounded down)'
+abbrev pub Extremes : List ℕ → Pressures → Type 0
+Extremes rs Pressures.Absent = rs ≡ []
+Extremes rs (Pressures.Present smallest largest mean) =
+    (Among smallest rs × Among largest rs)
+    × (((r : ℕ) → Among r rs → (smallest ≤ r) × (r ≤ largest)) × ((mean * length rs ≤ total rs) × (total rs < (mean + 1) * length rs)))
 
 -- 'A survey never takes 4095 for a pressure', whatever the buffer holds
 pub record Honest (b vs : List ℕ) : Type 0 where
-  pub blank : ℕ
-  pub over : ℕ
-  pub lost : ℕ
-  pub bad : ℕ
-  -- sum, smallest, largest and mean are those of the pressures alone
-  pub values : vs ≡ blank ∷ length (pressuresIn b) ∷ over ∷ lost ∷ bad ∷ total (pressuresIn b) ∷ pressuresValues (extremes (pressuresIn b))
+  -- each count is the number of slots of that status; sum, smallest, largest and mean are those of the pressures alone
+  pub values : vs
+      ≡ slotsIn b Status.Blank ∷ slotsIn b Status.Read ∷ slotsIn b Status.Over ∷ slotsIn b Status.Lost ∷ slotsIn b Status.Bad
+      ∷ total (pressuresIn b) ∷ pressuresValues (extremes (pressuresIn b))
+  -- a slot counts towards the status that its read's answer has, and towards no other
+  pub means : (slot : ℕ) → slot < countIn b → Means (statusOf (aloneIn b slot)) (aloneIn b slot)
+  pub counted : (s : Status) (slot : ℕ) → slot < countIn b → Means s (aloneIn b slot)
+      → count s (readsBelow b (suc slot)) ≡ count s (readsBelow b slot) + 1
+  pub uncounted : (s : Status) (slot : ℕ) → slot < countIn b → (Means s (aloneIn b slot) → ⊥)
+      → count s (readsBelow b (suc slot)) ≡ count s (readsBelow b slot)
   -- every slot is counted once
-  pub all : blank + length (pressuresIn b) + over + lost + bad ≡ countIn b
+  pub all : slotsIn b Status.Blank + slotsIn b Status.Read + slotsIn b Status.Over + slotsIn b Status.Lost + slotsIn b Status.Bad ≡ countIn b
+  -- as many are read as there are pressures
+  pub as-many : slotsIn b Status.Read ≡ length (pressuresIn b)
   -- a pressure is a reading of 0 to 4094 that a read of some slot gives
   pub pressures : (r : ℕ) → Among r (pressuresIn b)
       → (r ≤ 4094) × ((slot : ℕ) × (slot < countIn b) × ((v : Reading) × (onBytes (read slot) b .answer ≡ accepted (readingValues v)) × (v .reading ≡ r)))
-  -- smallest, largest and mean are none of them 4095, and absent exactly where nothing is read
+  -- smallest, largest and mean are those of the pressures, none of them 4095, and absent exactly where nothing is read
+  pub extreme : Extremes (pressuresIn b) (extremes (pressuresIn b))
   pub at-most : (r : ℕ) → Among r (pressuresValues (extremes (pressuresIn b))) → r ≤ 4094
-  pub absent : pressuresValues (extremes (pressuresIn b)) ≡ [] ↔ length (pressuresIn b) ≡ 0
+  pub absent : pressuresValues (extremes (pressuresIn b)) ≡ [] ↔ slotsIn b Status.Read ≡ 0
 
 abbrev pub SurveyHonest : Type 0
 SurveyHonest = (b vs : List ℕ) → onBytes survey b .answer ≡ accepted vs → Honest b vs
@@ -172,6 +332,7 @@ pub record Demand2 : Type 0 where
   pub round-trip : RoundTrip
   pub one-message : OneMessage
   pub decodes-codewords : DecodesCodewords
+  pub calls-round-trip : CallsRoundTrip
   pub eight-apart : EightApart
   -- 'Mending returns a codeword exactly when one is near [..], with its message and both counts'
   pub one-near : OneNear

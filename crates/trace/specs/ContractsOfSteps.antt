@@ -1,13 +1,12 @@
 -- What the parts of a call promise each other: the contracts of the functions below the calls. No claim rests on this file but by the proofs.
 use mathlib.Core.Path.{_≡_}
 use mathlib.Core.Bool.{true, false, cond}
-use mathlib.Core.Option.{Option, none, some}
 use mathlib.Core.List.{List, [], _∷_}
 use Prim.Native.Nat.{ℕ, _+_, _-_, _<_, _≤_, _^_}
 use lib.ListN.{length}
 use Rattle.codes.specs.declared.code.Code.{Code}
 use Rattle.codes.specs.declared.answer.Corrected.{Corrected}
-use Rattle.codes.specs.Answer.{Answer, accepted, Row}
+use Rattle.codes.specs.Answer.{Answer, accepted, Passes, Refuses}
 use Rattle.codes.specs.Projection.{Projection, width}
 use Rattle.codes.specs.Codes.{projection, codeOf}
 use Rattle.codes.specs.Word.{bit}
@@ -34,20 +33,6 @@ use Rattle.trace.specs.Rules.{bitRows, refusals, gives}
 use Rattle.trace.specs.Survey.{statusOf, is, countsOf, pressures, total, smallest, largest, extremes}
 use Rattle.trace.specs.Trace.{projectionIn, contentAt, viewIn, trailerRows, slotRowsIn, stored, leaves}
 use Rattle.trace.specs.Answers.{refusalNumber}
-
--- ---- rows
-
--- the number of the first row that is met
-abbrev pub firstMet : List Row → Option ℕ
-firstMet [] = none
-firstMet (r ∷ rs) = cond (r .met) (some (r .number)) (firstMet rs)
-
--- no row is met; the first that is met has the number k
-abbrev pub Passes : List Row → Type 0
-Passes rows = firstMet rows ≡ none
-
-abbrev pub Refuses : List Row → ℕ → Type 0
-Refuses rows k = firstMet rows ≡ some k
 
 -- ---- the trailer
 

@@ -5,10 +5,12 @@ use Prim.Native.Nat.{ℕ, _^_}
 use lib.Dec.{leb, ltb, eqb}
 use Rattle.codes.specs.Answer.{Row}
 use Rattle.codes.specs.Projection.{Projection, width}
+use Rattle.codes.specs.Correction.{correct, isFar}
 use Rattle.codes.specs.Codes.{isCode, stepLimit}
 use Rattle.trace.specs.declared.slot.Content.{Content}
 use Rattle.trace.specs.Layout.{distanceOf}
 
+-- 'N (2 bytes, high first, 1 to 4,000)'
 abbrev pub isCount : ℕ → Bool
 isCount n = leb 1 n && leb n 4000
 
@@ -52,6 +54,15 @@ holdsNothing (Content.Written word marks) = false
 
 abbrev pub blankSlot : Content → Row
 blankSlot c = record { number = 11; met = holdsNothing c }
+
+-- 'no near codeword', on a read: to the word that the slot holds, under its marks
+abbrev pub holdsLost : Projection → Content → Bool
+holdsLost π Content.Blank = false
+holdsLost π Content.Bad = false
+holdsLost π (Content.Written word marks) = isFar (correct π word marks)
+
+abbrev pub lostSlot : Projection → Content → Row
+lostSlot π c = record { number = 5; met = holdsLost π c }
 
 -- 'position not in the word'
 abbrev pub noPosition : Projection → ℕ → Row

@@ -8,22 +8,25 @@ use Rattle.trace.specs.Answers.{readingValues, surveyValues}
 use Rattle.trace.specs.Calls.{Call, put, flip, mark, clear, read, survey}
 use Rattle.trace.specs.View.{View, countOf, contentOf, readAlone}
 use Rattle.trace.specs.Survey.{surveyOf}
-use Rattle.trace.specs.Refusals.{noSlot, badSlot, blankSlot, noPosition, tooLarge}
+use Rattle.trace.specs.Refusals.{noSlot, badSlot, blankSlot, lostSlot, noPosition, tooLarge}
 
--- the rows of flip and mark behind their slot's
+-- the rows of read, and of flip and mark, behind their slot's
+abbrev pub contentRows : Projection → Content → List Row
+contentRows π c = badSlot c ∷ blankSlot c ∷ lostSlot π c ∷ []
+
 abbrev pub bitRows : Projection → Content → ℕ → List Row
 bitRows π c position = badSlot c ∷ blankSlot c ∷ noPosition π position ∷ []
 
--- a call's refusals in order, behind 7 and 8
+-- a call's refusals in order, behind 7 and 8; 5 on a read 'is tried only after all others pass'
 abbrev pub refusals : Call → View → List Row
 refusals (put slot step reading) v = noSlot (countOf v) slot ∷ tooLarge (v .code) step reading ∷ []
 refusals (flip slot position) v = noSlot (countOf v) slot ∷ bitRows (v .code) (contentOf v slot) position
 refusals (mark slot position) v = noSlot (countOf v) slot ∷ bitRows (v .code) (contentOf v slot) position
 refusals (clear slot) v = noSlot (countOf v) slot ∷ []
-refusals (read slot) v = noSlot (countOf v) slot ∷ badSlot (contentOf v slot) ∷ blankSlot (contentOf v slot) ∷ []
+refusals (read slot) v = noSlot (countOf v) slot ∷ contentRows (v .code) (contentOf v slot)
 refusals survey v = []
 
--- what a call gives where none of them is met: 5 on a read 'is tried only after all others pass'
+-- what a call gives where none of them is met
 abbrev pub gives : Call → View → Answer (List ℕ)
 gives (put slot step reading) v = accepted []
 gives (flip slot position) v = accepted []

@@ -33,8 +33,11 @@ abbrev pub messageOf : ℕ → ℕ → ℕ
 messageOf step reading = step * 4096 + reading
 
 -- 'Read mends and gives step, reading, wrong, marks'
+abbrev pub readingOf : Correction → Reading
+readingOf c = record { step = c .message / 4096; reading = c .message % 4096; wrong = c .wrong; marks = c .marks }
+
 unfoldable pub readCorrected : Option Correction → Answer Reading
-readCorrected (some c) = accepted (record { step = c .message / 4096; reading = c .message % 4096; wrong = c .wrong; marks = c .marks })
+readCorrected (some c) = accepted (readingOf c)
 readCorrected none = refused 5
 
 -- what a read gives by what the slot holds: 10, 11 or, after these, what mending gives

@@ -9,8 +9,7 @@ use lib.Dec.{T, lit<}
 use Rattle.symbols.specs.Symbol.{symbolOf}
 use Rattle.symbols.specs.Column.{one, columnNumber, columnWith}
 use Rattle.symbols.proofs.Every.{bits, _⊗_, below, passes, law-below, number-discrete}
-use Rattle.symbols.proofs.Columns.{one-le}
-use Rattle.symbols.proofs.Numbers.{symbol-mod}
+use Rattle.symbols.proofs.Numbers.{bits-counted, symbol-mod}
 use Rattle.symbols.proofs.column_with.Statement.{statement}
 use Rattle.symbols.proofs.column_with.Tie as tie
 
@@ -32,28 +31,28 @@ one-requires : tie.Need-one-requires
 one-requires c κs = search needs
 
 mul-result : tie.Need-mul-result
-mul-result c = omega (arith, one-le (c .before .args .parity))
+mul-result c = omega (arith, bits-counted .small (c .before .args .parity))
 
 mul-result-2 : tie.Need-mul-result-2
 mul-result-2 c = search needs
 
 add-result : tie.Need-add-result
-add-result c = omega (arith, one-le (c .before .args .parity))
+add-result c = omega (arith, bits-counted .small (c .before .args .parity))
 
 one-requires-2 : tie.Need-one-requires-2
 one-requires-2 c κs = search needs
 
 mul-result-3 : tie.Need-mul-result-3
-mul-result-3 c = omega (arith, one-le (c .before .before .args .top))
+mul-result-3 c = omega (arith, bits-counted .small (c .before .before .args .top))
 
 add-result-2 : tie.Need-add-result-2
-add-result-2 c = omega (arith, one-le (c .before .before .args .parity), one-le (c .before .before .args .top))
+add-result-2 c = omega (arith, bits-counted .small (c .before .before .args .parity), bits-counted .small (c .before .before .args .top))
 
 cast-result : tie.Need-cast-result
-cast-result c = omega (arith, one-le (c .before .before .args .parity), one-le (c .before .before .args .top))
+cast-result c = omega (arith, bits-counted .small (c .before .before .args .parity), bits-counted .small (c .before .before .args .top))
 
 shr-result : tie.Need-shr-result
-shr-result c = omega (arith, one-le (c .before .before .args .parity), one-le (c .before .before .args .top))
+shr-result c = omega (arith, bits-counted .small (c .before .before .args .parity), bits-counted .small (c .before .before .args .top))
 
 cast-result-2 : tie.Need-cast-result-2
 cast-result-2 c = search needs

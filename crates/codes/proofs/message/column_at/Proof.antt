@@ -4,7 +4,7 @@ use native.Mathlib.Omega.{arith}
 use borrow.Author.Needs.{needs}
 use Rattle.symbols.specs.Symbol.{symbolOf}
 use Rattle.symbols.specs.Column.{columnOf, columnWith}
-use Rattle.symbols.proofs.Numbers.{column-of-number}
+use Rattle.symbols.proofs.Claims.{numbers}
 use Rattle.codes.proofs.Codes.{bits-le}
 use Rattle.codes.proofs.message.column_at.Statement.{statement}
 use Rattle.codes.proofs.message.column_at.Tie as tie
@@ -29,7 +29,7 @@ returns c =
     let a = c .before .before .before .before .args in
     let p = rw (c .before .before .before .message-bits .ensures) at (c .before .before .has-bit .ensures) in
     ap columnOf (c .column-with .ensures)
-    ∙ column-of-number (columnWith (c .before .before .has-bit .result) (symbolOf (c .before .value-at .result)) (a .top))
+    ∙ numbers .columns .back (columnWith (c .before .before .has-bit .result) (symbolOf (c .before .value-at .result)) (a .top))
     ∙ rw (p, c .before .value-at .ensures)
 
 pub column-at-spec : {M : Type 1} → statement M

@@ -11,7 +11,7 @@ use lib.ListN.{length, take, set, length-set}
 use lib.Seq.{append-snoc}
 use Rattle.symbols.specs.Symbol.{_⊻_, hasBit}
 use Rattle.symbols.specs.Column.{columnOf}
-use Rattle.symbols.proofs.Symbols.{xor-comm, unequal-xor}
+use Rattle.symbols.proofs.Claims.{exclusive-or}
 use Rattle.codes.specs.Projection.{Projection, wanted, size, topBits}
 use Rattle.codes.specs.Codes.{projection}
 use Rattle.codes.specs.ContractsOfWalk.{drafted}
@@ -119,7 +119,7 @@ loop-again c =
     let ec : columnOf v ≡ draftAt π (a .message) (a .syndrome) (l .i) (hasBit (topBits π - 1 - l .i) (a .message)) =
     rw (parity-bit π (a .message), eb) at (c .column-at .ensures) in
     let et : not (Bool·beq (l .top) b) ≡ hasBit (topBits π - 1 - l .i) (a .message) ⊻ l .top =
-    rw (unequal-xor (l .top) b, eb) (xor-comm (l .top) (hasBit (topBits π - 1 - l .i) (a .message))) in (
+    rw (exclusive-or .unequal (l .top) b, eb) (exclusive-or .comm (l .top) (hasBit (topBits π - 1 - l .i) (a .message))) in (
       omega arith,
       simp length-set (l .inv .1),
       stored-next π (systematic (a .code)) (a .message) (a .syndrome) (l .i) (l .top) _ (l .columns) v (omega arith) (omega (arith, size-le (a .code))) ec et

@@ -9,7 +9,7 @@ use borrow.Author.Needs.{needs}
 use lib.ListN.{drop, drop-of-length-le}
 use lib.Pow.{pow-mono}
 use Rattle.symbols.specs.Column.{value, one}
-use Rattle.symbols.proofs.Columns.{one-le}
+use Rattle.symbols.proofs.Claims.{numbers}
 use Rattle.codes.specs.Digits.{symbols}
 use Rattle.codes.specs.Projection.{size}
 use Rattle.codes.specs.Message.{chosen}
@@ -45,7 +45,7 @@ one-requires : tie.Need-one-requires Inv-loop μ-loop
 one-requires c κs = search needs
 
 cast-number : tie.Need-cast-number Inv-loop μ-loop
-cast-number c = omega (arith, c .one .ensures, one-le (c .before .parity .result))
+cast-number c = omega (arith, c .one .ensures, numbers .bits .small (c .before .parity .result))
 
 loop-holds : tie.Need-loop-holds Inv-loop μ-loop
 loop-holds c =

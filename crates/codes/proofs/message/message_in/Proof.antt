@@ -9,7 +9,7 @@ use borrow.Author.Needs.{needs}
 use lib.ListN.{length, drop, drop-of-length-le, length-map}
 use lib.Pow.{pow-mono}
 use Rattle.symbols.specs.Column.{top, one}
-use Rattle.symbols.proofs.Columns.{one-le}
+use Rattle.symbols.proofs.Claims.{numbers}
 use Rattle.codes.specs.Digits.{bits}
 use Rattle.codes.specs.Projection.{size, topBits}
 use Rattle.codes.specs.Message.{butLast, messageIn, messageNumber}
@@ -76,10 +76,10 @@ one-requires : tie.Need-one-requires Inv-loop μ-loop
 one-requires c κs = search needs
 
 cast-number : tie.Need-cast-number Inv-loop μ-loop
-cast-number c = omega (arith, c .one .ensures, one-le (c .before .top .result))
+cast-number c = omega (arith, c .one .ensures, numbers .bits .small (c .before .top .result))
 
 add-number : tie.Need-add-number Inv-loop μ-loop
-add-number c = omega (arith, small (c .before .before .before .before), c .one .ensures, one-le (c .before .top .result))
+add-number c = omega (arith, small (c .before .before .before .before), c .one .ensures, numbers .bits .small (c .before .top .result))
 
 add-i : tie.Need-add-i Inv-loop μ-loop
 add-i c = omega (arith, size-le (entry (c .before .before .before .before) .args .code))

@@ -7,7 +7,7 @@ use Prim.Native.Nat.{suc, _+_, _-_, _*_, _/_, _^_}
 use native.Mathlib.Omega.{arith}
 use borrow.Author.Needs.{needs}
 use lib.ListN.{drop}
-use Rattle.symbols.proofs.Numbers.{symbol-mod}
+use Rattle.symbols.proofs.Claims.{numbers}
 use Rattle.codes.specs.Projection.{size, count, topBits}
 use Rattle.codes.specs.Codes.{projection}
 use Rattle.codes.proofs.Digits.{pow-mul, shift-shift}
@@ -59,7 +59,7 @@ returns c =
     let columns = c .before .before .before .columns in
     let free = c .before .before .free-behind in
     let last : columns .result - 1 ≡ topBits π = omega (arith, columns .ensures) in
-    symbol-mod (a .message / 2 ^ (columns .result - 1 + 2 * free .result))
+    numbers .symbols .modulo (a .message / 2 ^ (columns .result - 1 + 2 * free .result))
     ∙ rw (last, free .ensures, ← shift-shift (a .message) (topBits π) (count (drop (suc (a .column)) (π .free))))
     (sym (value-from (π .free) (a .column) (omega (arith, s .pre, systematic (a .code) .flags)) (a .message / 2 ^ topBits π) (a .syndrome)
     (sym (c .before .is-free .ensures) ∙ c .if1 .taken)))
@@ -88,7 +88,7 @@ returns-2 c =
     let free = c .before .before .free-behind in
     let others : columns .result - 1 - a .column - free .result ≡ count (map not (drop (suc (a .column)) (π .free))) =
     omega (arith, parted s, free .ensures, columns .ensures) in
-    symbol-mod (a .syndrome / 2 ^ (2 * (columns .result - 1 - a .column - free .result)))
+    numbers .symbols .modulo (a .syndrome / 2 ^ (2 * (columns .result - 1 - a .column - free .result)))
     ∙ rw (others, ← pow-mul 2 2 (count (map not (drop (suc (a .column)) (π .free)))))
     (sym (value-from (π .free) (a .column) (omega (arith, s .pre, systematic (a .code) .flags)) (a .message / 2 ^ topBits π) (a .syndrome)
     (sym (c .before .is-free .ensures) ∙ c .if1 .left)))

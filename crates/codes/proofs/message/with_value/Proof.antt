@@ -2,7 +2,7 @@
 use native.Mathlib.Omega.{arith}
 use borrow.Author.Needs.{needs}
 use Rattle.symbols.specs.Column.{value, columnOf}
-use Rattle.symbols.proofs.Numbers.{symbol-number-lt}
+use Rattle.symbols.proofs.Claims.{numbers}
 use Rattle.codes.proofs.message.with_value.Statement.{statement}
 use Rattle.codes.proofs.message.with_value.Tie as tie
 
@@ -16,7 +16,7 @@ cast-result : tie.Need-cast-result
 cast-result c = search needs
 
 add-result : tie.Need-add-result
-add-result c = omega (arith, c .value .ensures, symbol-number-lt (value (columnOf (c .before .before .args .column))))
+add-result c = omega (arith, c .value .ensures, numbers .symbols .small (value (columnOf (c .before .before .args .column))))
 
 returns : tie.Need-returns
 returns c = rw (c .value .ensures, c .before .if1 .taken)

@@ -9,16 +9,15 @@ use borrow.Author.Count.{below-more}
 use borrow.Author.Needs.{needs}
 use borrow.Fn.Kinds.{In}
 use borrow.Fn.PlainCycle.{Measures, is, falls, and}
-use Rattle.symbols.proofs.Symbols.{unequal-xor}
+use Rattle.symbols.proofs.Claims.{exclusive-or}
 use Rattle.codes.specs.Codes.{projection}
 use Rattle.codes.specs.Word.{word, isCodewordOf}
 use Rattle.codes.specs.ContractsOfSearch.{inverted, Within}
 use Rattle.codes.proofs.Codes.{size-le}
 use Rattle.codes.proofs.Words.{codeword-parts, beq-true}
 use Rattle.codes.proofs.Differences.{lacks-none}
-use Rattle.codes.proofs.Searches.{sought-one, sought-none}
+use Rattle.codes.proofs.Searches.{searchable, sought-one, sought-none}
 use Rattle.codes.proofs.Seeking.{row-small, lacks-other, column-ahead, column-inside, seek-skip, seek-row, seek-none, seek-found}
-use Rattle.codes.proofs.Tables.{searchable}
 use Rattle.codes.proofs.search.seek.Reads as seek
 use Rattle.codes.proofs.search.seek.Kinds as kinds
 use Rattle.codes.proofs.search.+seek.Lts-seek as lts
@@ -147,7 +146,7 @@ seek-requires-2 t c κs =
       (
         s .pre .1 .0,
         seek-row (s .pre .1 .1) some lack (searchable (s .args .code)) row (c .before .scaled-at .result) _ (c .inverted .result)
-            (c .before .before .loop-test .taken) (c .before .scaled-at .ensures) (unequal-xor (s .args .off) (eqb row 0)) (c .inverted .ensures),
+            (c .before .before .loop-test .taken) (c .before .scaled-at .ensures) (exclusive-or .unequal (s .args .off) (eqb row 0)) (c .inverted .ensures),
       ),
     )
 

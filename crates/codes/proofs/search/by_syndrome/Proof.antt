@@ -1,19 +1,15 @@
 -- `codes::search::by_syndrome` meets its contract: the word itself, the word with two bits inverted of the column that the entry names, or none.
 use mathlib.Core.Path.{sym, _∙_}
-use mathlib.Core.Bool.{false}
-use Prim.Native.Nat.{_%_}
 use native.Mathlib.Omega.{arith}
 use borrow.Author.Needs.{needs}
 use lib.ListN.{getD}
-use Rattle.symbols.specs.Symbol.{symbolOf}
 use Rattle.symbols.specs.Column.{columnWith}
-use Rattle.symbols.proofs.Numbers.{column-number-lt}
+use Rattle.symbols.proofs.Claims.{numbers}
 use Rattle.codes.specs.Codes.{projection}
 use Rattle.codes.proofs.Codes.{size-le, packed-lt}
-use Rattle.codes.proofs.Differences.{Named, entry-at, entry-names}
-use Rattle.codes.proofs.Searches.{sought-none, sought-word}
+use Rattle.codes.proofs.Entries.{Named, entry-at, entry-names}
+use Rattle.codes.proofs.Searches.{searchable, sought-none, sought-word}
 use Rattle.codes.proofs.Syndromes.{zero-here, zero-off, none-within-one, none-unnamed, pair-inverted}
-use Rattle.codes.proofs.Tables.{searchable}
 use Rattle.codes.proofs.search.by_syndrome.Statement.{statement}
 use Rattle.codes.proofs.search.by_syndrome.Tie as tie
 
@@ -32,7 +28,7 @@ returns-3 c =
     let s = c .before .before in
     λ p known par.
     sought-none
-    (none-within-one known par (s .args .k) (searchable (s .args .code)) (packed-lt (s .args .code) (omega arith)) (c .before .if1 .left) (c .if3 .taken))
+    (none-within-one known par (s .args .k) (packed-lt (s .args .code) (omega arith)) (c .before .if1 .left) (c .if3 .taken))
 
 element-copy-out-entry : tie.Need-element-copy-out-entry
 element-copy-out-entry c = search needs
@@ -55,7 +51,7 @@ named e =
     let π = projection (s .args .code) in
     let at = entry-at π (s .args .table .now) (s .args .s) (s .pre .0) (omega arith) in
     rw at
-    (entry-names π (searchable (s .args .code) .tabled) (s .args .s) (packed-lt (s .args .code) (omega arith)) (λ z. e .if4 .left (at ∙ z)))
+    (entry-names π (s .args .s) (λ z. e .if4 .left (at ∙ z)))
 
 column-with-requires : tie.Need-column-with-requires
 column-with-requires c κs = search needs
@@ -67,12 +63,7 @@ cast-inverted : tie.Need-cast-inverted
 cast-inverted c = omega (arith, named (c .before) .place, size-le (c .before .before .before .before .before .args .code))
 
 inverted-requires : tie.Need-inverted-requires
-inverted-requires c κs =
-    let s = c .before .before .before .before .before in (
-      named (c .before) .place,
-      rw (c .column-with .ensures)
-          (column-number-lt (columnWith false (symbolOf (getD (s .args .table .now) (s .args .s) 0 % 4)) (s .args .off))),
-    )
+inverted-requires c κs = (named (c .before) .place, rw (c .column-with .ensures) (numbers .columns .small (columnWith _ _ _)))
 
 returns-5 : tie.Need-returns-5
 returns-5 c =

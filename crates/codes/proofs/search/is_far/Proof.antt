@@ -6,9 +6,8 @@ use borrow.Author.Needs.{needs}
 use borrow.Author.Tests.{eqb-true}
 use Rattle.codes.specs.Codes.{projection}
 use Rattle.codes.proofs.Codes.{packed-lt}
-use Rattle.codes.proofs.Differences.{entry-at}
-use Rattle.codes.proofs.Searches.{far}
-use Rattle.codes.proofs.Tables.{searchable}
+use Rattle.codes.proofs.Entries.{entry-at}
+use Rattle.codes.proofs.Searches.{searchable, far}
 use Rattle.codes.proofs.search.is_far.Statement.{statement}
 use Rattle.codes.proofs.search.is_far.Tie as tie
 

@@ -3,7 +3,7 @@ use mathlib.Core.Path.{ap, _∙_}
 use native.Mathlib.Omega.{arith}
 use borrow.Author.Needs.{needs}
 use Rattle.symbols.specs.Symbol.{_⊻_}
-use Rattle.symbols.proofs.Symbols.{unequal-xor}
+use Rattle.symbols.proofs.Claims.{exclusive-or}
 use Rattle.codes.proofs.Searches.{sought-none}
 use Rattle.codes.proofs.Seeking.{seek-start, too-many}
 use Rattle.codes.proofs.search.of_parity.Statement.{statement}
@@ -25,7 +25,7 @@ seek-requires c κs =
     let wanted = c .before .before .top-parity in (
       s .pre .0,
       seek-start (s .pre .1) (omega arith) (c .columns .result) (c .columns .ensures) _
-          (unequal-xor top (wanted .result) ∙ ap (_⊻_ top) (wanted .ensures)),
+          (exclusive-or .unequal top (wanted .result) ∙ ap (_⊻_ top) (wanted .ensures)),
     )
 
 returns-2 : tie.Need-returns-2

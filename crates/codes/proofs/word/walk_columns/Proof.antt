@@ -9,8 +9,7 @@ use borrow.Author.Needs.{needs}
 use lib.ListN.{getD, drop}
 use Rattle.symbols.specs.Symbol.{symbolOf}
 use Rattle.symbols.specs.Column.{value, parity, one, columnOf}
-use Rattle.symbols.proofs.Columns.{one-le}
-use Rattle.symbols.proofs.Numbers.{symbol-of-number, symbol-number-lt}
+use Rattle.symbols.proofs.Claims.{numbers}
 use Rattle.codes.specs.declared.code.Code.{Code}
 use Rattle.codes.specs.Projection.{size}
 use Rattle.codes.specs.Codes.{projection}
@@ -59,7 +58,7 @@ value-requires c κs = search needs
 scaled-at-requires : tie.Need-scaled-at-requires Inv-loop μ-loop
 scaled-at-requires c κs =
     let column = getD (c .before .before .before .before .args .t3) (c .before .before .loop .i - 1) 0 in
-    (c .before .before .before .before .pre, omega arith, omega (arith, c .value .ensures, symbol-number-lt (value (columnOf column))))
+    (c .before .before .before .before .pre, omega arith, omega (arith, c .value .ensures, numbers .symbols .small (value (columnOf column))))
 
 top-requires : tie.Need-top-requires Inv-loop μ-loop
 top-requires c κs = search needs
@@ -71,7 +70,7 @@ one-requires : tie.Need-one-requires Inv-loop μ-loop
 one-requires c κs = search needs
 
 add-odd : tie.Need-add-odd Inv-loop μ-loop
-add-odd c = omega (arith, c .one .ensures, one-le (c .before .parity .result), head c .loop .inv .2)
+add-odd c = omega (arith, c .one .ensures, numbers .bits .small (c .before .parity .result), head c .loop .inv .2)
 
 loop-less : tie.Need-loop-less Inv-loop μ-loop
 loop-less c = omega arith
@@ -86,13 +85,13 @@ loop-again c =
     let valued = c .before .before .before .before .value in
     let column = columnOf (getD a (l .i - 1) 0) in
     let next : suc (l .i - 1) ≡ l .i = omega arith in
-    let symbol : symbolOf (valued .result) ≡ value column = ap symbolOf (valued .ensures) ∙ symbol-of-number (value column) in
+    let symbol : symbolOf (valued .result) ≡ value column = ap symbolOf (valued .ensures) ∙ numbers .symbols .back (value column) in
     let here =
     walk-step (projection code) a (omega (arith, size-le code)) (systematic code .shape) (l .i - 1) (omega arith) (l .syndrome) (l .top) (l .odd)
     (scaled .result) (rw (symbol) at (scaled .ensures)) (rw next (l .inv .1)) in (
       omega arith,
       rw (c .before .before .top .ensures, c .one .ensures, c .before .parity .ensures) here,
-      omega (arith, c .one .ensures, one-le (c .before .parity .result)),
+      omega (arith, c .one .ensures, numbers .bits .small (c .before .parity .result)),
     )
 
 returns : tie.Need-returns Inv-loop μ-loop

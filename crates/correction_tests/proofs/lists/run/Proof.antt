@@ -1,15 +1,15 @@
 -- `correction_tests::lists::run` is safe: a slot is looked up only below the number of slots.
-use Prim.Native.Nat.{_-_}
+use Prim.Native.Nat.{_-_, _≤_}
 use native.Mathlib.Omega.{arith}
 use borrow.Author.Needs.{needs}
 use Rattle.correction_tests.proofs.lists.run.Statement.{statement}
 use Rattle.correction_tests.proofs.lists.run.Tie as tie
 
 abbrev Inv-loop : tie.InvT-loop
-Inv-loop code list bytes₀ slots₀ state₀ made₀ bytes slots state made = Unit {0}
+Inv-loop code list outcomes₀ bytes₀ slots₀ state₀ made₀ outcomes bytes slots state made = made ≤ 400
 
 abbrev μ-loop : tie.MeasureT-loop
-μ-loop code list bytes₀ slots₀ state₀ made₀ bytes slots state made = 400 - made
+μ-loop code list outcomes₀ bytes₀ slots₀ state₀ made₀ outcomes bytes slots state made = 400 - made
 
 blank-requires : tie.Need-blank-requires Inv-loop μ-loop
 blank-requires c κs = search needs
@@ -30,7 +30,7 @@ add-state-2 : tie.Need-add-state-2 Inv-loop μ-loop
 add-state-2 c = omega arith
 
 loop-holds : tie.Need-loop-holds Inv-loop μ-loop
-loop-holds c = tt
+loop-holds c = omega arith
 
 draw-requires-2 : tie.Need-draw-requires-2 Inv-loop μ-loop
 draw-requires-2 c κs = search needs
@@ -50,8 +50,29 @@ call-from-requires c κs = search needs
 about-requires : tie.Need-about-requires Inv-loop μ-loop
 about-requires c κs = search needs
 
+answer-requires : tie.Need-answer-requires Inv-loop μ-loop
+answer-requires c κs = search needs
+
 make-call-requires : tie.Need-make-call-requires Inv-loop μ-loop
 make-call-requires c κs = search needs
+
+number-requires : tie.Need-number-requires Inv-loop μ-loop
+number-requires c κs = search needs
+
+outcome-requires : tie.Need-outcome-requires Inv-loop μ-loop
+outcome-requires c κs = search needs
+
+mul-outcomes : tie.Need-mul-outcomes Inv-loop μ-loop
+mul-outcomes c = omega arith
+
+add-outcomes : tie.Need-add-outcomes Inv-loop μ-loop
+add-outcomes c = omega arith
+
+mul-outcomes-2 : tie.Need-mul-outcomes-2 Inv-loop μ-loop
+mul-outcomes-2 c = omega arith
+
+element-write-outcomes : tie.Need-element-write-outcomes Inv-loop μ-loop
+element-write-outcomes c = omega arith
 
 mul-after : tie.Need-mul-after Inv-loop μ-loop
 mul-after c = omega arith
@@ -75,7 +96,7 @@ loop-less : tie.Need-loop-less Inv-loop μ-loop
 loop-less c = omega arith
 
 loop-again : tie.Need-loop-again Inv-loop μ-loop
-loop-again c = tt
+loop-again c = omega arith
 
 returns : tie.Need-returns Inv-loop μ-loop
 returns c = omega arith
@@ -99,7 +120,14 @@ run-spec =
     draw-requires-5
     call-from-requires
     about-requires
+    answer-requires
     make-call-requires
+    number-requires
+    outcome-requires
+    mul-outcomes
+    add-outcomes
+    mul-outcomes-2
+    element-write-outcomes
     mul-after
     array-copy-out-after
     after-requires

@@ -6,28 +6,28 @@ use Rattle.correction_tests.proofs.search.hold.Statement.{statement}
 use Rattle.correction_tests.proofs.search.hold.Tie as tie
 
 abbrev Inv-loop : tie.InvT-loop
-Inv-loop codeword message words marks near₀ kept₀ j₀ near kept j = j ≤ 104
+Inv-loop codeword message words marks near₀ kept₀ equal₀ j₀ near kept equal j = j ≤ 214
 
 abbrev μ-loop : tie.MeasureT-loop
-μ-loop codeword message words marks near₀ kept₀ j₀ near kept j = 104 - j
+μ-loop codeword message words marks near₀ kept₀ equal₀ j₀ near kept equal j = 214 - j
 
 loop-holds : tie.Need-loop-holds Inv-loop μ-loop
 loop-holds c = omega arith
 
-mul-sum : tie.Need-mul-sum Inv-loop μ-loop
-mul-sum c = omega arith
+mul-is-near : tie.Need-mul-is-near Inv-loop μ-loop
+mul-is-near c = omega arith
 
-element-copy-out-sum : tie.Need-element-copy-out-sum Inv-loop μ-loop
-element-copy-out-sum c = omega arith
+element-copy-out-is-near : tie.Need-element-copy-out-is-near Inv-loop μ-loop
+element-copy-out-is-near c = omega arith
 
-mul-sum-2 : tie.Need-mul-sum-2 Inv-loop μ-loop
-mul-sum-2 c = omega arith
+mul-is-near-2 : tie.Need-mul-is-near-2 Inv-loop μ-loop
+mul-is-near-2 c = omega arith
 
-element-copy-out-sum-2 : tie.Need-element-copy-out-sum-2 Inv-loop μ-loop
-element-copy-out-sum-2 c = omega arith
+element-copy-out-is-near-2 : tie.Need-element-copy-out-is-near-2 Inv-loop μ-loop
+element-copy-out-is-near-2 c = omega arith
 
-sum-requires : tie.Need-sum-requires Inv-loop μ-loop
-sum-requires c κs = search needs
+is-near-requires : tie.Need-is-near-requires Inv-loop μ-loop
+is-near-requires c κs = search needs
 
 mul-one-more : tie.Need-mul-one-more Inv-loop μ-loop
 mul-one-more c = omega arith
@@ -50,6 +50,21 @@ mul-kept c = omega arith
 element-write-kept : tie.Need-element-write-kept Inv-loop μ-loop
 element-write-kept c = omega arith
 
+mul-if2 : tie.Need-mul-if2 Inv-loop μ-loop
+mul-if2 c = omega arith
+
+element-copy-out-if2 : tie.Need-element-copy-out-if2 Inv-loop μ-loop
+element-copy-out-if2 c = omega arith
+
+add-equal : tie.Need-add-equal Inv-loop μ-loop
+add-equal c = omega arith
+
+mul-equal : tie.Need-mul-equal Inv-loop μ-loop
+mul-equal c = omega arith
+
+element-write-equal : tie.Need-element-write-equal Inv-loop μ-loop
+element-write-equal c = omega arith
+
 add-j : tie.Need-add-j Inv-loop μ-loop
 add-j c = omega arith
 
@@ -69,11 +84,11 @@ hold-spec =
     Inv-loop
     μ-loop
     loop-holds
-    mul-sum
-    element-copy-out-sum
-    mul-sum-2
-    element-copy-out-sum-2
-    sum-requires
+    mul-is-near
+    element-copy-out-is-near
+    mul-is-near-2
+    element-copy-out-is-near-2
+    is-near-requires
     mul-one-more
     element-copy-out-one-more
     one-more-requires
@@ -81,6 +96,11 @@ hold-spec =
     element-write-near
     mul-kept
     element-write-kept
+    mul-if2
+    element-copy-out-if2
+    add-equal
+    mul-equal
+    element-write-equal
     add-j
     loop-less
     loop-again

@@ -1,33 +1,38 @@
--- `correction_tests::search::search` is safe: it ends with the last message.
-use Prim.Native.Nat.{_-_}
+-- `correction_tests::search::search` is safe: it ends with the last message, and no more is counted than there are messages.
+use Prim.Native.Nat.{_-_, _≤_}
 use native.Mathlib.Omega.{arith}
 use borrow.Author.Needs.{needs}
 use Rattle.correction_tests.proofs.search.search.Statement.{statement}
 use Rattle.correction_tests.proofs.search.search.Tie as tie
 
 abbrev Inv-loop : tie.InvT-loop
-Inv-loop code words marks near₀ kept₀ messages message₀ near kept message = Unit {0}
+Inv-loop code words marks near₀ kept₀ equal₀ otherwise₀ messages message₀ near kept equal otherwise message =
+    otherwise ≤ message
 
 abbrev μ-loop : tie.MeasureT-loop
-μ-loop code words marks near₀ kept₀ messages message₀ near kept message = messages - message
+μ-loop code words marks near₀ kept₀ equal₀ otherwise₀ messages message₀ near kept equal otherwise message =
+    messages - message
 
 messages-requires : tie.Need-messages-requires Inv-loop μ-loop
 messages-requires c κs = search needs
 
 loop-holds : tie.Need-loop-holds Inv-loop μ-loop
-loop-holds c = tt
+loop-holds c = omega arith
 
-encode-requires : tie.Need-encode-requires Inv-loop μ-loop
-encode-requires c κs = search needs
-
-enum-known-codeword : tie.Need-enum-known-codeword Inv-loop μ-loop
-enum-known-codeword c = omega arith
+codeword-requires : tie.Need-codeword-requires Inv-loop μ-loop
+codeword-requires c κs = search needs
 
 hold-requires : tie.Need-hold-requires Inv-loop μ-loop
 hold-requires c κs = search needs
 
-enum-told : tie.Need-enum-told Inv-loop μ-loop
-enum-told c = omega arith
+encodes-requires : tie.Need-encodes-requires Inv-loop μ-loop
+encodes-requires c κs = search needs
+
+counted-requires : tie.Need-counted-requires Inv-loop μ-loop
+counted-requires c κs = search needs
+
+add-otherwise : tie.Need-add-otherwise Inv-loop μ-loop
+add-otherwise c = omega arith
 
 add-message : tie.Need-add-message Inv-loop μ-loop
 add-message c = omega arith
@@ -36,7 +41,7 @@ loop-less : tie.Need-loop-less Inv-loop μ-loop
 loop-less c = omega arith
 
 loop-again : tie.Need-loop-again Inv-loop μ-loop
-loop-again c = tt
+loop-again c = omega arith
 
 returns : tie.Need-returns Inv-loop μ-loop
 returns c = omega arith
@@ -49,10 +54,11 @@ search-spec =
     μ-loop
     messages-requires
     loop-holds
-    encode-requires
-    enum-known-codeword
+    codeword-requires
     hold-requires
-    enum-told
+    encodes-requires
+    counted-requires
+    add-otherwise
     add-message
     loop-less
     loop-again

@@ -1,14 +1,13 @@
 -- `codes::Code::correct` meets its contract: the rows of its refusals in order, then what mending gives.
 use mathlib.Core.Path.{_≡_, sym, ap, _∙_}
-use mathlib.Core.List.{[], _∷_}
 use Prim.Native.Nat.{ℕ, _^_, _<_}
 use borrow.Author.Needs.{needs}
 use Rattle.codes.specs.declared.code.Code.{Code}
 use Rattle.codes.specs.Answer.{accepted, refused}
 use Rattle.codes.specs.Projection.{Projection, width}
 use Rattle.codes.specs.Message.{decode}
-use Rattle.codes.specs.Correction.{wrong, ones, Near, correct}
-use Rattle.codes.specs.Codes.{projection, correctionAnswer, correcting}
+use Rattle.codes.specs.Correction.{wrong, ones, Near, correctionOf, correct}
+use Rattle.codes.specs.Codes.{projection, correctionValues, correctionAnswer, correcting}
 use Rattle.codes.proofs.Codes.{systematic, apart}
 use Rattle.codes.proofs.Corrections.{correct-near, correct-none, many-marks, correcting-wide, correcting-wide-marks, correcting-fits}
 use Rattle.codes.proofs.code.Code.correct.Statement.{statement}
@@ -41,7 +40,7 @@ module _ (e : tie.Else2) where
   none-answer : ((y : ℕ) → Near π w m y → ⊥) → refused 5 ≡ correcting π w m
   none-answer empty = sym (fits ∙ ap correctionAnswer (correct-none π w m (systematic code) (apart code) empty))
 
-  near-answer : (x : ℕ) → Near π w m x → accepted (x ∷ decode π x ∷ wrong π w m x ∷ ones π m ∷ []) ≡ correcting π w m
+  near-answer : (x : ℕ) → Near π w m x → accepted (correctionValues (correctionOf π w m x)) ≡ correcting π w m
   near-answer x close = sym (fits ∙ ap correctionAnswer (correct-near π w m (systematic code) (apart code) x close))
 
 word-limit-requires : tie.Need-word-limit-requires

@@ -1,0 +1,17 @@
+// The input of a program, in a buffer of a fixed size.
+ghost use mathlib.Core.Path.{_≡_};
+ghost use Rattle.lines.specs.Input.{isTooLong, InputBuffer, readInto};
+
+// An input has at most this many bytes.
+pub const LONGEST: usize = 65536;
+
+// A buffer for an input has one byte more, so that a longer input is seen.
+pub const INPUT: usize = LONGEST + 1;
+
+// Whether an input is too long, of which `size` bytes were read into a buffer: it fills the buffer.
+pub fn is_too_long(input: &[u8; INPUT], size: usize) -> bool
+    ensures { λ r. ⌜ InputBuffer (now (input .entry)) × (r ≡ isTooLong (readInto (now (input .entry)) size)) ⌝ }
+{
+    let bytes: &[u8] = input;
+    bytes.len() <= size
+}

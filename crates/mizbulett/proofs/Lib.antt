@@ -1,0 +1,2 @@
+-- The claim of specs/Claims.antt.
+pub mod Claims
