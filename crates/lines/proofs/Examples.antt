@@ -1,6 +1,7 @@
--- Listings of files that are given byte for byte, from the bytes to the text: document 01's, refused ones and one with a bad slot. Trailer, slots, survey and lines are computed by their definitions. Mending is a
--- search through all codewords, and the codes' claims give what it finds: slot 0 is two positions from the codeword of 74·4096 + 2385, slot 3
--- is the codeword of 4095, and slot 2 is that one with the four bits of a column inverted, so that its sum is 8 and no codeword is near.
+-- Listings of files that are given byte for byte, from the bytes to the text: document 01's, refused ones and one with a bad slot. Trailer,
+-- slots, survey and lines are computed by their definitions. Mending is a search through all codewords, and the codes' claims give what it
+-- finds in document 01's: slot 0 is two positions from the codeword of 74·4096 + 2385, slot 3 is the codeword of 4095, and slot 2 is that
+-- one with the four bits of a column inverted, so that its sum is 8 and no codeword is near.
 use mathlib.Core.Path.{_≡_, refl}
 use mathlib.Core.Option.{none, some}
 use lib.Dec.{lit<}

@@ -6,7 +6,7 @@ pub mod Among
 mod Numbers
 mod Parts
 mod Xor
--- The layout, for any slots' bytes: what is read at a slot's place and what storing there makes of them; the trailer.
+-- The layout, for any slots' bytes: what is read at a slot's place and what storing there makes of them; the trailer; one trace byte for byte.
 mod Slots
 mod Trailers
 mod LayoutExamples
