@@ -128,7 +128,7 @@ fn run(b: &mut [u8], call: Call) -> Answer {
 /// A random list of trace calls: each answer, and the bytes at the end.
 fn compare_list(number: u64, code: &Code, random: &mut Random) {
     let slots = 1 + random.below(3);
-    let len = 11 * slots + 8 + random.below(20);
+    let len = library::size(slots) as u64 + random.below(20);
     let mut buffer: Vec<u8> = (0..len).map(|_| random.next() as u8).collect();
     let mut plain = Trace::new(code, number, slots as usize, &buffer);
     expect("making", library::make(&mut buffer, number, slots), Ok(()));
@@ -175,10 +175,9 @@ fn measure(number: u64, code: &Code, random: &mut Random) {
 }
 
 fn measure_survey(number: u64, code: &Code, random: &mut Random) {
-    const SLOTS: u64 = 4000;
-    let mut buffer = vec![0; 11 * SLOTS as usize + 8];
-    library::make(&mut buffer, number, SLOTS).expect("a buffer with room");
-    for slot in 0..SLOTS {
+    let mut buffer = vec![0; library::size(library::MAX_SLOTS)];
+    library::make(&mut buffer, number, library::MAX_SLOTS).expect("a buffer with room");
+    for slot in 0..library::MAX_SLOTS {
         let step = random.below(1 << (code.message_bits() - 12));
         library::put(&mut buffer, slot, step, random.below(4096)).expect("a slot");
         for _ in 0..random.below(4) {
@@ -186,7 +185,7 @@ fn measure_survey(number: u64, code: &Code, random: &mut Random) {
         }
     }
     let one = nanoseconds(200, |_| library::survey(&buffer));
-    println!("{number}     survey   {:10.0} slots a second", SLOTS as f64 / one * 1e9);
+    println!("{number}     survey   {:10.0} slots a second", library::MAX_SLOTS as f64 / one * 1e9);
 }
 
 fn main() {

@@ -4,7 +4,7 @@
 
 #include "mizbulett.h"
 
-enum { CODE = 1, SLOTS = 4, SIZE = 11 * SLOTS + 8 };
+enum { SLOTS = 4, SIZE = MIZBULETT_SIZE(SLOTS) };
 
 static void expect_accepted(const char *call, uint64_t number)
 {
@@ -15,24 +15,25 @@ static void expect_accepted(const char *call, uint64_t number)
 
 static void print_slot(const uint8_t *trace, uint64_t slot)
 {
-    uint64_t out[4];
+    uint64_t out[MIZBULETT_READ_VALUES];
     uint64_t number = mizbulett_read(trace, SIZE, slot, out);
     if (number != MIZBULETT_ACCEPTED) {
         printf("slot %" PRIu64 ": refused %" PRIu64 "\n", slot, number);
     } else {
-        printf("slot %" PRIu64 ": step %" PRIu64 " reading %" PRIu64 ", %" PRIu64 " wrong, %" PRIu64 " marked%s\n", slot, out[0], out[1],
-               out[2], out[3], out[1] == 4095 ? ", no pressure" : "");
+        printf("slot %" PRIu64 ": step %" PRIu64 " reading %" PRIu64 ", %" PRIu64 " wrong, %" PRIu64 " marked%s\n", slot,
+               out[MIZBULETT_READ_STEP], out[MIZBULETT_READ_READING], out[MIZBULETT_READ_WRONG], out[MIZBULETT_READ_MARKS],
+               out[MIZBULETT_READ_READING] == MIZBULETT_OVER ? ", no pressure" : "");
     }
 }
 
 int main(void)
 {
     uint8_t trace[SIZE];
-    uint64_t out[10];
+    uint64_t out[MIZBULETT_SURVEY_VALUES];
 
-    expect_accepted("make", mizbulett_make(trace, SIZE, CODE, SLOTS));
+    expect_accepted("make", mizbulett_make(trace, SIZE, MIZBULETT_CODE_36_O, SLOTS));
     expect_accepted("put", mizbulett_put(trace, SIZE, 0, 74, 2385));
-    expect_accepted("put", mizbulett_put(trace, SIZE, 1, 75, 4095));
+    expect_accepted("put", mizbulett_put(trace, SIZE, 1, 75, MIZBULETT_OVER));
     expect_accepted("put", mizbulett_put(trace, SIZE, 2, 76, 2401));
 
     /* Slot 0: two wrong bits and three marks, one of them on a wrong bit: 2 * 1 + 3 is at most 7, and it is mended. */
@@ -54,9 +55,11 @@ int main(void)
         print_slot(trace, slot);
     }
     expect_accepted("survey", mizbulett_survey(trace, SIZE, out));
-    printf("blank %" PRIu64 " read %" PRIu64 " over %" PRIu64 " lost %" PRIu64 " bad %" PRIu64 "\n", out[0], out[1], out[2], out[3], out[4]);
-    if (out[6] == 1) {
-        printf("pressures from %" PRIu64 " to %" PRIu64 ", mean %" PRIu64 "\n", out[7], out[8], out[9]);
+    printf("blank %" PRIu64 " read %" PRIu64 " over %" PRIu64 " lost %" PRIu64 " bad %" PRIu64 "\n", out[MIZBULETT_SURVEY_BLANK],
+           out[MIZBULETT_SURVEY_READ], out[MIZBULETT_SURVEY_OVER], out[MIZBULETT_SURVEY_LOST], out[MIZBULETT_SURVEY_BAD]);
+    if (out[MIZBULETT_SURVEY_PRESENT] == 1) {
+        printf("pressures from %" PRIu64 " to %" PRIu64 ", mean %" PRIu64 "\n", out[MIZBULETT_SURVEY_SMALLEST],
+               out[MIZBULETT_SURVEY_LARGEST], out[MIZBULETT_SURVEY_MEAN]);
     } else {
         printf("no pressure\n");
     }

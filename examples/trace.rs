@@ -3,16 +3,15 @@
 #[path = "../include/mizbulett.rs"]
 mod mizbulett;
 
-use mizbulett::{flip, make, mark, put, read, survey};
+use mizbulett::{flip, make, mark, put, read, size, survey, CODE_36_O, OVER};
 
-const CODE: u64 = 1;
 const SLOTS: u64 = 4;
 
 /// Makes and damages the trace. The number is that of a refused call.
 fn shift(trace: &mut [u8]) -> Result<(), u64> {
-    make(trace, CODE, SLOTS)?;
+    make(trace, CODE_36_O, SLOTS)?;
     put(trace, 0, 74, 2385)?;
-    put(trace, 1, 75, 4095)?;
+    put(trace, 1, 75, OVER)?;
     put(trace, 2, 76, 2401)?;
 
     // Slot 0: two wrong bits and three marks, one of them on a wrong bit: 2 * 1 + 3 is at most 7, and it is mended.
@@ -31,7 +30,7 @@ fn shift(trace: &mut [u8]) -> Result<(), u64> {
 }
 
 fn main() {
-    let mut trace = [0; 11 * SLOTS as usize + 8];
+    let mut trace = [0; size(SLOTS)];
     shift(&mut trace).expect("every call is accepted");
 
     // A step that the code has no room for: refused, and nothing changes.
@@ -41,7 +40,7 @@ fn main() {
     for slot in 0..SLOTS {
         match read(&trace, slot) {
             Ok([step, reading, wrong, marks]) => {
-                let note = if reading == 4095 { ", no pressure" } else { "" };
+                let note = if reading == OVER { ", no pressure" } else { "" };
                 println!("slot {slot}: step {step} reading {reading}, {wrong} wrong, {marks} marked{note}");
             }
             Err(number) => println!("slot {slot}: refused {number}"),

@@ -3,9 +3,16 @@
  *
  * A trace has N slots. A slot is blank, or holds one reading with its step, as a codeword of 36 or 40 bits in which up to
  * three wrong bits, or up to seven bits that are known to be doubtful (marked), are mended: a read gives what was last
- * put while 2 * wrong + marks is at most 7, and refuses at 8. Beyond 8 it refuses, or gives another codeword's reading
- * where the damage came that near to it, which no code of this length can tell. A reading of 4095 is where the converter
- * tops out: it is no pressure, and a survey never counts it as one.
+ * put while 2 * wrong + marks is at most 7, and refuses at 8. docs/FORMAT.md has the codes, the bytes and the refusals.
+ *
+ * What mending can't tell. Beyond 8 a read refuses, or gives the reading of another codeword to which the damage came near.
+ * Of the 376,992 sets of five wrong bits in a word of 36 bits, 24,864 bring it that near (6.6 %); at 40 bits 58,968 of
+ * 658,008 do (9.0 %). The word is then as near to the other codeword as three wrong bits would bring it, so whoever mends
+ * three wrong bits can't tell the two apart. With marks fewer wrong bits do: under seven marks one can be enough, and a
+ * read then gives wrong 0. Many reads in which 2 * wrong + marks is 6 or 7, as with three wrong bits, or many lost ones,
+ * are a warning: such a trace is one to look at before any limit is set from it.
+ *
+ * A reading of 4095 (MIZBULETT_OVER) is where the converter tops out: it is no pressure, and a survey never counts it as one.
  *
  * Every function returns 0 where the call is accepted, and else one number, below. A refused call writes nothing: neither
  * the buffer nor `out`. Any numbers and any bytes may be passed; the smallest number that applies is returned, but 5 on a
@@ -17,7 +24,18 @@
  *   - `buf` has `len` bytes, `out` has as many numbers as its declaration says, and `len` is at most PTRDIFF_MAX;
  *   - `out` does not overlap `buf`, and is aligned for uint64_t;
  *   - nobody else writes `buf` or `out`, nor reads what is written, while the call runs.
- * Nothing is kept between calls, and no memory is allocated. Calls on different buffers may run at the same time.
+ * Nothing is kept between calls. Calls on different buffers may run at the same time.
+ *
+ * Figures of the archive that `rt staticlib mizbulett` writes:
+ *   machine   x86-64 with the System V calling convention (ELF); position independent; SSE registers and the red zone are used
+ *   size      18.5 kB, of which 10.2 kB are code and constants (ls, size)
+ *   memory    no heap, and no data that is written: .data and .bss have 0 bytes (size, nm)
+ *   symbols   the ten functions below are defined, and memset is needed (nm -g)
+ *   stack     3,232 bytes at most, beside what memset takes, by the frames in the disassembly: the search in correct, read
+ *             and survey calls itself once a column, ten deep. Of a painted stack no call used more than 3,216 bytes, on
+ *             traces of 4,000 damaged slots
+ * They are measured, not proved: no theorem bounds the stack. And nothing but the tests (examples/run, bench/run) holds this
+ * header, mizbulett.rs and examples/trace.py to the source: link what was built from one commit.
  */
 #ifndef MIZBULETT_H
 #define MIZBULETT_H
@@ -27,6 +45,13 @@
 
 /* Raised whenever a call's numbers or values change. */
 #define MIZBULETT_VERSION 1
+
+/* The most slots that a trace has, and the bytes of a trace of n slots: what a buffer needs at least. */
+#define MIZBULETT_MAX_SLOTS 4000
+#define MIZBULETT_SIZE(n) (UINT64_C(11) * (n) + 8)
+
+/* The reading at which the converter tops out. Pressures are the readings below it. */
+#define MIZBULETT_OVER 4095
 
 #ifdef __cplusplus
 extern "C" {
@@ -40,8 +65,8 @@ enum {
     MIZBULETT_WORD_TOO_WIDE = 3,     /* the word or the marks have a bit above the width: 36 (codes 1, 2) or 40 (codes 3, 4) */
     MIZBULETT_NOT_A_CODEWORD = 4,    /* strict reading only */
     MIZBULETT_NONE_NEAR = 5,         /* no codeword is near: too much is damaged to mend */
-    MIZBULETT_WRONG_COUNT = 6,       /* the number of slots is not 1 to 4000 */
-    MIZBULETT_BUFFER_SHORT = 7,      /* under 8 bytes; for make: under 11 * slots + 8 */
+    MIZBULETT_WRONG_COUNT = 6,       /* the number of slots is not 1 to MIZBULETT_MAX_SLOTS */
+    MIZBULETT_BUFFER_SHORT = 7,      /* under 8 bytes; for make: under MIZBULETT_SIZE(slots) */
     MIZBULETT_TRAILER_UNFIT = 8,     /* the buffer's last 8 bytes are no trailer of a trace that fits the buffer */
     MIZBULETT_NO_SLOT = 9,           /* the slot is not below the number of slots */
     MIZBULETT_SLOT_BAD = 10,         /* the slot's bytes are none that any call writes */
@@ -50,25 +75,71 @@ enum {
     MIZBULETT_TOO_LARGE = 13         /* the step is not below 128 (codes 1, 2) or 1024 (codes 3, 4), or the reading is above 4095 */
 };
 
+/* The codes, by the bits of a word and the rule for the top row, O or E. */
+enum {
+    MIZBULETT_CODE_36_O = 1,
+    MIZBULETT_CODE_36_E = 2,
+    MIZBULETT_CODE_40_O = 3,
+    MIZBULETT_CODE_40_E = 4
+};
+
 /*
  * Words. A word is a number of 36 bits (codes 1, 2) or 40 bits (codes 3, 4). Position 0 is its highest bit. Marks are a
  * word whose ones are the doubtful positions. A message is step * 4096 + reading.
  */
 
-/* The codeword of a message. out: word. Refusals 1, 2. */
-uint64_t mizbulett_encode(uint64_t code, uint64_t message, uint64_t out[1]);
+/* The places in each call's `out`, and how many there are. */
+enum { MIZBULETT_ENCODE_WORD = 0, MIZBULETT_ENCODE_VALUES = 1 };
 
-/* The message of a codeword, and of no other word. out: message. Refusals 1, 3, 4. */
-uint64_t mizbulett_decode(uint64_t code, uint64_t word, uint64_t out[1]);
+enum { MIZBULETT_DECODE_MESSAGE = 0, MIZBULETT_DECODE_VALUES = 1 };
+
+enum {
+    MIZBULETT_CORRECT_CODEWORD = 0,
+    MIZBULETT_CORRECT_MESSAGE = 1,
+    MIZBULETT_CORRECT_WRONG = 2, /* the positions that differ and are not marked */
+    MIZBULETT_CORRECT_MARKS = 3, /* the marked positions */
+    MIZBULETT_CORRECT_VALUES = 4
+};
+
+/* The codeword of a message. Refusals 1, 2. */
+uint64_t mizbulett_encode(uint64_t code, uint64_t message, uint64_t out[MIZBULETT_ENCODE_VALUES]);
+
+/* The message of a codeword, and of no other word. Refusals 1, 3, 4. */
+uint64_t mizbulett_decode(uint64_t code, uint64_t word, uint64_t out[MIZBULETT_DECODE_VALUES]);
 
 /* The only codeword with 2 * wrong + marks at most 7, where wrong counts the positions that differ and are not marked.
- * out: codeword, message, wrong, number of marks. Refusals 1, 3, 5. */
-uint64_t mizbulett_correct(uint64_t code, uint64_t word, uint64_t marks, uint64_t out[4]);
+ * Refusals 1, 3, 5. */
+uint64_t mizbulett_correct(uint64_t code, uint64_t word, uint64_t marks, uint64_t out[MIZBULETT_CORRECT_VALUES]);
 
 /*
  * Traces. A trace lies at the buffer's end: slots of 11 bytes, then a trailer of 8. The bytes before it are the caller's,
  * and no call changes them. Slots are numbered from 0.
+ *
+ * The trailer says what the trace is: buf[len - 4] * 256 + buf[len - 3] is its number of slots, buf[len - 2] its code, and
+ * buf[len - 1] the edition of the layout, 1. Rely on them where a survey of the buffer is not refused.
  */
+
+enum {
+    MIZBULETT_READ_STEP = 0,
+    MIZBULETT_READ_READING = 1, /* a pressure where it is below MIZBULETT_OVER, and only there */
+    MIZBULETT_READ_WRONG = 2,   /* the positions that differ and are not marked */
+    MIZBULETT_READ_MARKS = 3,   /* the marked positions */
+    MIZBULETT_READ_VALUES = 4
+};
+
+enum {
+    MIZBULETT_SURVEY_BLANK = 0,
+    MIZBULETT_SURVEY_READ = 1,     /* slots with a pressure: a reading of 0 to 4094 */
+    MIZBULETT_SURVEY_OVER = 2,     /* slots with a reading of MIZBULETT_OVER */
+    MIZBULETT_SURVEY_LOST = 3,     /* slots whose read is refused MIZBULETT_NONE_NEAR */
+    MIZBULETT_SURVEY_BAD = 4,      /* slots whose read is refused MIZBULETT_SLOT_BAD */
+    MIZBULETT_SURVEY_SUM = 5,      /* of the pressures */
+    MIZBULETT_SURVEY_PRESENT = 6,  /* 1 where there is a pressure, else 0 */
+    MIZBULETT_SURVEY_SMALLEST = 7, /* this and the next two are 0, and no pressures, where MIZBULETT_SURVEY_PRESENT is 0 */
+    MIZBULETT_SURVEY_LARGEST = 8,
+    MIZBULETT_SURVEY_MEAN = 9,     /* rounded down */
+    MIZBULETT_SURVEY_VALUES = 10
+};
 
 /* Makes a trace of blank slots at the end of buf. Refusals 1, 6, 7. */
 uint64_t mizbulett_make(uint8_t *buf, size_t len, uint64_t code, uint64_t slots);
@@ -85,15 +156,11 @@ uint64_t mizbulett_mark(uint8_t *buf, size_t len, uint64_t slot, uint64_t positi
 /* Blanks a slot, whatever it held. Refusals 7, 8, 9. */
 uint64_t mizbulett_clear(uint8_t *buf, size_t len, uint64_t slot);
 
-/* Mends a slot; the buffer stays as it is. out: step, reading, wrong, number of marks. Refusals 7 to 11, then 5.
- * A reading of 4095 is no pressure. */
-uint64_t mizbulett_read(const uint8_t *buf, size_t len, uint64_t slot, uint64_t out[4]);
+/* Mends a slot; the buffer stays as it is. Refusals 7 to 11, then 5. */
+uint64_t mizbulett_read(const uint8_t *buf, size_t len, uint64_t slot, uint64_t out[MIZBULETT_READ_VALUES]);
 
-/* Counts the slots by what a read of each gives, and sums up the pressures: the readings 0 to 4094 alone.
- * out: [0] blank, [1] read (0 to 4094), [2] over (4095), [3] lost (5), [4] bad (10), [5] sum of the pressures,
- *      [6] 1 where there is a pressure, else 0, [7] smallest, [8] largest, [9] mean, rounded down; these three are 0,
- *      and no pressures, where [6] is 0. Refusals 7, 8. */
-uint64_t mizbulett_survey(const uint8_t *buf, size_t len, uint64_t out[10]);
+/* Counts the slots by what a read of each gives, and sums up the pressures: the readings 0 to 4094 alone. Refusals 7, 8. */
+uint64_t mizbulett_survey(const uint8_t *buf, size_t len, uint64_t out[MIZBULETT_SURVEY_VALUES]);
 
 #ifdef __cplusplus
 }

@@ -3,12 +3,12 @@
 #[path = "../include/mizbulett.rs"]
 mod mizbulett;
 
-use mizbulett::{flip, make, mark, put};
+use mizbulett::{flip, make, mark, put, size, CODE_36_E, CODE_36_O, CODE_40_O, OVER};
 use std::path::Path;
 
 /// A blank trace behind some free bytes.
 fn trace(free: usize, code: u64, slots: u64) -> Vec<u8> {
-    let mut bytes = vec![0; free + 11 * slots as usize + 8];
+    let mut bytes = vec![0; free + size(slots)];
     make(&mut bytes, code, slots).expect("room for the slots");
     bytes
 }
@@ -29,7 +29,7 @@ fn damage(bytes: &mut [u8], slot: u64, wrong: &[u64], doubtful: &[u64]) {
 
 /// Eight hours, a reading every ten minutes: a calm line, with the small damage of an optical reader.
 fn shift() -> Vec<u8> {
-    let mut bytes = trace(0, 1, 48);
+    let mut bytes = trace(0, CODE_36_O, 48);
     for slot in 0..46 {
         store(&mut bytes, slot, 820 + (slot * 37) % 53 + slot % 7 * 4);
     }
@@ -41,10 +41,10 @@ fn shift() -> Vec<u8> {
 
 /// A line that blocks: the pressure climbs until the converter tops out.
 fn blocked() -> Vec<u8> {
-    let mut bytes = trace(0, 3, 24);
+    let mut bytes = trace(0, CODE_40_O, 24);
     for slot in 0u64..24 {
         let climbed = 760 + slot % 3 * 6 + slot.saturating_sub(8) * 310;
-        store(&mut bytes, slot, climbed.min(4095));
+        store(&mut bytes, slot, climbed.min(OVER));
     }
     bytes
 }
@@ -52,16 +52,17 @@ fn blocked() -> Vec<u8> {
 /// A spoilt card with a name before the slots: lost, bad, blank, over-range and mended slots.
 fn damaged() -> Vec<u8> {
     let name = b"WARD 7 BED 3";
-    let mut bytes = trace(name.len(), 2, 12);
+    let slots = 12;
+    let mut bytes = trace(name.len(), CODE_36_E, slots);
     bytes[..name.len()].copy_from_slice(name);
     for slot in 0..10 {
-        store(&mut bytes, slot, if slot == 6 { 4095 } else { 1310 + slot * 11 });
+        store(&mut bytes, slot, if slot == 6 { OVER } else { 1310 + slot * 11 });
     }
     damage(&mut bytes, 1, &[0, 12, 24], &[]);
     damage(&mut bytes, 2, &[0, 9, 18, 27], &[]);
     damage(&mut bytes, 4, &[1, 2, 3], &[1, 2, 3, 4, 5, 6, 7]);
     damage(&mut bytes, 5, &[], &[8, 9, 10, 11, 12, 13, 14, 15]);
-    let state_of_slot_8 = name.len() + 11 * 8;
+    let state_of_slot_8 = bytes.len() - size(slots - 8);
     bytes[state_of_slot_8] = 0x41;
     bytes
 }

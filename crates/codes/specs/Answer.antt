@@ -1,4 +1,4 @@
--- What a call answers, in document 01's numbers, and how its refusals are ordered ('Refusals by what comes back').
+-- What a call answers, in the scope's numbers, and how its refusals are ordered.
 use mathlib.Core.Path.{_≡_}
 use mathlib.Core.Bool.{Bool, cond}
 use mathlib.Core.List.{List, [], _∷_}
@@ -20,8 +20,8 @@ pub record Row : Type 0 where
   pub number : ℕ
   pub met : Bool
 
--- the first row of a call's table that is met is returned, alone ('The smallest number that applies is returned, alone': document 01's
--- rows stand in the order of their numbers, but for 5 on a read, which stands last)
+-- the first row of a call's table that is met is returned, alone ('The smallest number that applies is returned, alone': the scope's rows
+-- stand in the order of their numbers, but for 5 on a read, which stands last)
 abbrev pub unless : {A : Type 0} → List Row → Answer A → Answer A
 unless [] a = a
 unless (r ∷ rs) a = cond (r .met) (refused (r .number)) (unless rs a)

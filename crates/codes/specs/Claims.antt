@@ -1,6 +1,5 @@
--- The claims about the four codes (demand 2 and the word calls' part of demand 1; document 01, 'Columns and their values', 'The four codes',
--- 'Mending' and 'Refusals by what comes back'). Each is one definition, and one theorem of the same name in proofs/Claims.antt. They speak
--- of the definitions, and so, by the contracts, of the functions.
+-- The claims about the four codes, in the words of the demands and of the scope: demand 2, and the word calls' part of demand 1. Each is one
+-- definition, and one theorem of the same name in proofs/Claims.antt. They speak of the definitions, and so, by the contracts, of the functions.
 use mathlib.Core.Path.{_≡_}
 use mathlib.Core.Bool.{true}
 use mathlib.Core.Logic.{_⊎_, _↔_}
@@ -114,7 +113,7 @@ abbrev pub numbers : List Row → List ℕ
 numbers [] = []
 numbers (r ∷ rs) = r .number ∷ numbers rs
 
--- an answer by a table whose rows have these numbers, in this order. Document 01's stand so that 'The smallest number that applies is returned,
+-- an answer by a table whose rows have these numbers, in this order. The scope's stand so that 'The smallest number that applies is returned,
 -- alone, but 5 on a read is tried only after all others pass'
 pub record ByTable {A : Type 0} (order : List ℕ) (rows : List Row) (a : Answer A) : Type 0 where
   pub ordered : numbers rows ≡ order
@@ -123,7 +122,7 @@ pub record ByTable {A : Type 0} (order : List ℕ) (rows : List Row) (a : Answer
   -- accepted exactly where no row is met
   pub accepts : ((v : A) × (a ≡ accepted v)) ↔ Passes rows
 
--- the numbers that document 01's table gives each word call, and the call's rows, under the code that a number names
+-- the numbers that the scope's table of refusals gives each word call, and the call's rows, under the code that a number names
 abbrev pub encodingNumbers : List ℕ
 encodingNumbers = 1 ∷ 2 ∷ []
 
@@ -147,13 +146,13 @@ correctingRows code word marks =
     ∷ noneNear (projection (codeOf code)) word marks
     ∷ []
 
--- 'Unfit input gets one of the thirteen refusal numbers of document 01': those that its table gives each word call, each exactly where it is met
+-- 'Unfit input gets one of the thirteen refusal numbers of [the scope]': those that its table gives each word call, each exactly where it is met
 pub record WordCallsRefuse : Type 0 where
   pub encodings : (code message : ℕ) → ByTable encodingNumbers (encodingRows code message) (under code (λ π. encoding π message))
   pub decodings : (code word : ℕ) → ByTable decodingNumbers (decodingRows code word) (under code (λ π. decoding π word))
   pub corrections : (code word marks : ℕ) → ByTable correctingNumbers (correctingRows code word marks) (under code (λ π. correcting π word marks))
 
--- when each of these rows is met, in the words of document 01's table
+-- when each of these rows is met, in the words of the scope's table
 pub record WordRowsMean : Type 0 where
   -- 'code not 1 to 4'
   pub unknown : (code : ℕ) → (unknownCode code .met ≡ true ↔ ((1 ≤ code) × (code ≤ 4) → ⊥))

@@ -1,4 +1,4 @@
--- The four codes by their numbers, and what each word call answers (document 01, 'The four codes' and 'Refusals by what comes back').
+-- The four codes by their numbers, and what each word call answers.
 use mathlib.Core.Bool.{Bool, not, cond, _&&_}
 use mathlib.Core.List.{List, [], _∷_}
 use mathlib.Core.Option.{Option, none, some}
@@ -73,7 +73,8 @@ abbrev pub correctionAnswer : Option Correction → Answer (List ℕ)
 correctionAnswer (some c) = accepted (correctionValues c)
 correctionAnswer none = refused (refusalNumber NoneNear)
 
--- the rows of the table of refusals
+-- the word calls' rows of the scope's table of refusals: 'code not 1 to 4'; 'message over 19 or 22 bits'; 'word or marks have a bit above
+-- the width'; 'not a codeword'; 'no near codeword'
 abbrev pub unknownCode : ℕ → Row
 unknownCode n = record { number = 1; met = not (isCode n) }
 

@@ -1,5 +1,5 @@
--- Correction, that is decoding of errors and erasures: document 01's 'Mending'. Marks are a set of positions, given as a word whose ones
--- are those positions. The search below is never run: it says what is right.
+-- Correction, that is decoding of errors and erasures, which the scope calls mending: 'Input: code, word, marks (a set of positions).' Marks are given
+-- as a word whose ones are those positions. The search below is never run: it says what is right.
 use mathlib.Core.Path.{_≡_}
 use mathlib.Core.Bool.{Bool, true, false, not, cond, _&&_}
 use mathlib.Core.List.{List, [], _∷_}

@@ -15,7 +15,7 @@ pub mod Correction
 pub mod Answer
 -- the four codes by their numbers, and what each word call answers
 pub mod Codes
--- the starred words of document 01
+-- the scope's starred words
 pub mod Starred
 -- the claims about all of this, one definition each
 pub mod Claims

@@ -1,4 +1,4 @@
--- Messages and their codewords (document 01, 'The four codes').
+-- Messages and their codewords: writing, and the message that a codeword has.
 use mathlib.Core.Bool.{Bool, true, false}
 use mathlib.Core.List.{List, [], _∷_, map}
 use Prim.Native.Nat.{ℕ, _+_, _*_, _/_, _^_}

@@ -1,4 +1,4 @@
--- What makes a code: its check matrix, its top rule and its free columns (document 01, 'The check matrices' and 'The four codes').
+-- What makes a code: its check matrix, its top rule and its free columns.
 -- Everything else in this crate is defined over any such code.
 use mathlib.Core.Bool.{Bool, true, false}
 use mathlib.Core.List.{List, [], _∷_}
@@ -51,7 +51,7 @@ abbrev pub printed : List (List ℕ) → List (List Symbol)
 printed [] = []
 printed (r ∷ rs) = withRow r (printed rs)
 
--- 'Nine columns (source document 000), rows of H'; 'Free columns are 5 to 9'
+-- 'Nine columns [..], rows of H', published by Galvez and Kim; 'Free columns are 5 to 9'
 abbrev pub nine : TopRule → Projection
 nine r =
     record {
@@ -67,7 +67,7 @@ nine r =
       free = false ∷ false ∷ false ∷ false ∷ true ∷ true ∷ true ∷ true ∷ true ∷ [];
     }
 
--- 'Ten columns (source document 003)'; 'or 1, 2, 3, 5, 6, 7'
+-- 'Ten columns', published by D. G. Kim; 'or 1, 2, 3, 5, 6, 7'
 abbrev pub ten : TopRule → Projection
 ten r =
     record {

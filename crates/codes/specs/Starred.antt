@@ -1,4 +1,4 @@
--- The starred words of document 01 ('Words to try'): what a call answers, and what it must answer.
+-- The scope's starred words ('Starred ones are theorems'): what a call answers, and what it must answer.
 use mathlib.Core.Path.{_≡_}
 use mathlib.Core.List.{List, [], _∷_}
 use Prim.Native.Nat.{ℕ}

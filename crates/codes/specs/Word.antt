@@ -1,4 +1,4 @@
--- Words as lists of columns, and which of them are codewords (document 01, 'The four codes').
+-- Words as lists of columns, and which of them are codewords.
 use mathlib.Core.Bool.{Bool, true, false, _&&_, _||_, Bool·beq}
 use mathlib.Core.List.{List, [], _∷_, map}
 use Prim.Native.Nat.{ℕ, _+_, _-_, _/_, _%_, _^_}

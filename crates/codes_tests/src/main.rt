@@ -1,4 +1,4 @@
-// Writing and strict reading, tried: document 01's words that are no theorems, the words of each free column, and messages there and back.
+// Writing and strict reading, tried: the scope's words to try that are no theorems, the words of each free column, and messages there and back.
 use codes::Decoded;
 use codes::Encoded;
 use libc::STDOUT_FILENO;

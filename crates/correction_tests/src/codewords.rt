@@ -1,4 +1,4 @@
-// Codewords by document 01's definition alone. Nothing here is the library's: products, check matrices, free columns and the order of a
+// Codewords by the scope's definition alone. Nothing here is the library's: products, check matrices, free columns and the order of a
 // message's bits are written out once more.
 use crate::words::columns;
 use crate::words::message_bits;

@@ -1,7 +1,7 @@
 // Writing, strict reading, mending and the trace calls, tried against a search through all codewords: this program makes each codeword of a
-// code by document 01's definition, compares it with the library's, and holds it against every word that is tried.
+// code by the scope's definition, compares it with the library's, and holds it against every word that is tried.
 // Most of the words are samples, tried by `correct` and `decode`; the others are left in slots by random lists of trace calls, whose
-// answers are compared too, and are read besides. Document 01's words that are no theorems are shown.
+// answers are compared too, and are read besides. The scope's words to try that are no theorems are shown.
 mod codewords;
 mod compare;
 mod draws;
@@ -178,7 +178,7 @@ fn report(code: u64) {
     show_calls(code, &called);
 }
 
-// Document 01's words, and words of believable faults.
+// The scope's words to try, and words of believable faults.
 fn show_words() {
     show(1, 0xFE0000000, 0xFE0000000);
     show(1, 0, 0xFF0000000);

@@ -1,8 +1,9 @@
--- Listings of files that are given byte for byte, from the bytes to the text: document 01's, refused ones and one with a bad slot. Trailer,
--- slots, survey and lines are computed by their definitions. Mending is a search through all codewords, and the codes' claims give what it
--- finds in document 01's: slot 0 is two positions from the codeword of 74·4096 + 2385, slot 3 is the codeword of 4095, and slot 2 is that
--- one with the four bits of a column inverted, so that its sum is 8 and no codeword is near.
-use mathlib.Core.Path.{_≡_, refl}
+-- Texts of files that are given byte for byte, from the bytes to the text: listings and reports of the scope's, of refused ones and of one with
+-- a bad slot, and the lines of calls on them; and the lines of what can't be played. Trailer, slots, survey and lines are computed by their
+-- definitions. Mending is a search through all codewords, and the codes' claims give what it finds in the scope's file: slot 0 is two positions
+-- from the codeword of 74·4096 + 2385, slot 3 is the codeword of 4095, and slot 2 is that one with the four bits of a column inverted, so that
+-- its sum is 8 and no codeword is near.
+use mathlib.Core.Path.{_≡_, refl, ap}
 use mathlib.Core.Option.{none, some}
 use lib.Dec.{lit<}
 use lib.ListN.{length}
@@ -15,14 +16,20 @@ use Rattle.codes.specs.Correction.{correct}
 use Rattle.codes.specs.Codes.{projection}
 use Rattle.codes.proofs.Claims.{eight-is-far}
 use Rattle.codes.proofs.Laws.{near-correct, none-correct}
+use Rattle.codes.specs.Answer.{accepted}
+use Rattle.trace.specs.declared.answer.Pressures.{Pressures}
 use Rattle.trace.specs.Layout.{part, numberFrom, placeFrom}
 use Rattle.trace.specs.View.{readCorrected, readContent}
-use Rattle.trace.specs.Survey.{statusOf, count, answersOf, surveyOf}
+use Rattle.trace.specs.Survey.{statusOf, count, pressures, total, smallest, largest, extremes, answersOf, surveyOf}
 use Rattle.trace.specs.Refusals.{isFit, isBad}
 use Rattle.trace.specs.Trace.{contentWith, viewIn, aloneIn, surveyIn}
-use Rattle.lines.specs.Text.{digits, decimal, spaced}
-use Rattle.lines.specs.Listing.{line, ending, slotLine, slotLines, listing}
-use Rattle.lines.specs.Claims.{exampleFile, Example, badFile, OtherListings}
+use Rattle.lines.specs.Text.{digits, decimal, hex, each, noted}
+use Rattle.lines.specs.Input.{surveyFile}
+use Rattle.lines.specs.Listing.{ending, slotLine, slotLines, listing}
+use Rattle.lines.specs.Answers.{surveyLine, bytesLine}
+use Rattle.lines.specs.Trouble.{visibleByte, shown, troubleLine}
+use Rattle.lines.specs.Report.{statusLine, report}
+use Rattle.lines.specs.Claims.{exampleFile, Example, badFile, OtherListings, ListedNumbers, ExampleReport, OtherReports, AnswerLines, TroubleLines}
 
 -- code 1
 abbrev π : Projection
@@ -41,14 +48,65 @@ slot-3 : correct π 0x9CACFFF96 0 ≡ some (record { codeword = 0x9CACFFF96; mes
 unfolding isCodeword decode
 slot-3 = near-correct O36 0x9CACFFF96 0 0x9CACFFF96 (record { fits = lit< tt; codeword = refl; near = refl })
 
+-- what a survey finds in all of them
+example-survey :
+    surveyIn exampleFile
+    ≡ accepted
+    record {
+      slots = 4;
+      counts = record { blank = 1; read = 1; over = 1; lost = 1; bad = 0 };
+      sum = 2385;
+      pressures = Pressures.Present 2385 2385 2385;
+    }
+unfolding
+    exampleFile part numberFrom placeFrom isFit isBad contentWith viewIn readContent readCorrected surveyIn surveyOf answersOf count statusOf
+    pressures total smallest largest extremes
+example-survey = rw (slot-0, slot-2, slot-3)
+
 pub example : Example
 unfolding
     exampleFile part numberFrom placeFrom isFit isBad contentWith viewIn aloneIn readContent readCorrected
-    surveyIn surveyOf answersOf count statusOf listing slotLines slotLine ending line spaced decimal digits
+    surveyIn surveyOf answersOf count statusOf surveyFile listing slotLines slotLine ending noted each decimal digits
 example = rw (slot-0, slot-2, slot-3)
 
 pub other-listings : OtherListings
 unfolding
     badFile part numberFrom placeFrom isFit isBad contentWith viewIn aloneIn readContent surveyIn surveyOf answersOf count statusOf
-    listing slotLines slotLine ending line spaced decimal digits
+    surveyFile listing slotLines slotLine ending noted each decimal digits
 other-listings = record { long = λ file h. rw (lt-ltb 65536 (length file) h); none = refl; zeros = refl; bad = refl }
+
+pub listed-numbers : ListedNumbers
+unfolding statusOf slotLine ending noted each decimal digits
+listed-numbers = record { read = refl; over = refl; total = refl }
+
+pub example-report : ExampleReport
+unfolding exampleFile surveyFile report statusLine noted each decimal digits
+example-report = rw example-survey
+
+pub other-reports : OtherReports
+unfolding
+    badFile part numberFrom placeFrom isFit isBad contentWith viewIn readContent surveyIn surveyOf answersOf count statusOf
+    pressures extremes surveyFile report statusLine noted each decimal digits
+other-reports = record { long = λ file h. rw (lt-ltb 65536 (length file) h); none = refl; zeros = refl; bad = refl; numbers = refl }
+
+pub answer-lines : AnswerLines
+unfolding
+    exampleFile badFile part numberFrom placeFrom isFit isBad contentWith viewIn aloneIn readContent readCorrected
+    surveyIn surveyOf answersOf count statusOf pressures total extremes bytesLine hex noted each decimal digits
+answer-lines =
+    record {
+      done = refl;
+      read = rw slot-0;
+      blank = refl;
+      lost = rw slot-2;
+      survey = ap surveyLine example-survey;
+      numbers = refl;
+      absent = refl;
+      refused = refl;
+      bytes = refl;
+      lent = refl;
+    }
+
+pub trouble-lines : TroubleLines
+unfolding troubleLine shown visibleByte hex each decimal digits
+trouble-lines = record { unreadable = refl; notLent = refl; notRead = refl; notWritten = refl; long = refl }

@@ -1,8 +1,12 @@
--- What the layers above may cite: the claims, and an input in its buffer.
+-- What the layers above may cite: the claims.
 pub mod Examples
-pub mod Inputs
+pub mod Visible
+-- An input in its buffer, and what a survey of it answers.
+mod Inputs
 -- Texts: decimal digits, and texts that are written one after the other.
 mod Decimals
 mod Texts
--- Listings: the lines as the code puts them together.
+-- Listings, surveys and troubles: the lines as the code puts them together.
 mod Lines
+mod Surveyed
+mod Troubles

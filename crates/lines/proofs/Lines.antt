@@ -1,9 +1,8 @@
--- The text of a listing, as the code puts it together: numbers one after the other, a slot's line, the lines of the first slots, and each way
--- that a listing goes: too long a file, a refused one, a listed one. Each law follows one path through the definition's tests; a slot of a
--- surveyed file reads as it does alone.
+-- The text of a listing, as the code puts it together: what follows a slot, and each way that a listing goes: a refused file, a listed one. Each
+-- law follows one path through the definition's tests.
 use mathlib.Core.Path.{_≡_, refl}
 use mathlib.Core.Bool.{Bool, true, false, cond}
-use mathlib.Core.List.{List, [], _∷_, _++_, append-assoc, append-nil}
+use mathlib.Core.List.{List, [], _∷_, _++_}
 use Prim.Native.Nat.{ℕ, _≤_}
 use native.Mathlib.Omega.{arith}
 use lib.Dec.{ltb}
@@ -15,16 +14,11 @@ use Rattle.trace.specs.declared.answer.Survey.{Survey}
 use Rattle.trace.specs.declared.status.Status.{Status}
 use Rattle.trace.specs.Answers.{readingValues}
 use Rattle.trace.specs.Survey.{statusOf, is}
-use Rattle.trace.specs.Trace.{aloneIn, surveyIn}
+use Rattle.trace.specs.Trace.{aloneIn}
 use Rattle.trace.proofs.Laws.{status-read, status-over}
-use Rattle.lines.specs.Text.{text, decimal, spaced}
-use Rattle.lines.specs.Input.{isTooLong}
-use Rattle.lines.specs.Listing.{line, statusWord, ending, totalLine, refusedLine, slotLines, listing}
-
-pub spaced-more : (l : List ℕ) (n : ℕ) → spaced (l ++ (n ∷ [])) ≡ (spaced l ++ text " ") ++ decimal n
-unfolding spaced
-spaced-more [] n = rw append-nil
-spaced-more (m ∷ l) n = rw (spaced-more l n) (simp append-assoc)
+use Rattle.lines.specs.Text.{line}
+use Rattle.lines.specs.Input.{surveyFile}
+use Rattle.lines.specs.Listing.{statusWord, ending, totalLine, refusedLine, slotLines, listing}
 
 -- a status's word takes six bytes at most, with the space before it
 pub word-short : (s : Status) → length (statusWord s) ≤ 6
@@ -59,15 +53,11 @@ module _ (v : Reading) (s : Status) (e : s ≡ statusOf (accepted v)) where
 
 -- ---- a listing
 
-pub listing-long : (file : List ℕ) → isTooLong file ≡ true → refusedLine 7 ≡ listing file
+pub listing-refused : (file : List ℕ) (n : ℕ) → surveyFile file ≡ refused n → refusedLine n ≡ listing file
 unfolding listing
-listing-long file long = simp long
+listing-refused file n e = rw e
 
-pub listing-refused : (file : List ℕ) (n : ℕ) → isTooLong file ≡ false → surveyIn file ≡ refused n → refusedLine n ≡ listing file
-unfolding listing
-listing-refused file n short e = simp (short, e)
-
-pub listing-accepted : (file : List ℕ) (s : Survey) → isTooLong file ≡ false → surveyIn file ≡ accepted s
+pub listing-accepted : (file : List ℕ) (s : Survey) → surveyFile file ≡ accepted s
     → slotLines (aloneIn file) (s .slots) ++ totalLine (s .slots) (s .counts) ≡ listing file
 unfolding listing
-listing-accepted file s short e = simp (short, e)
+listing-accepted file s e = rw e

@@ -1,10 +1,21 @@
--- What is claimed of a listing's text. Each claim is a theorem of the same name, in lower case, in proofs/.
+-- What is claimed of the texts that the programs print. Each claim is a theorem of the same name, in lower case, in proofs/.
 use mathlib.Core.Path.{_≡_}
 use mathlib.Core.List.{List, [], _∷_, _++_}
-use Prim.Native.Nat.{ℕ, _<_}
+use Prim.Native.Nat.{ℕ, _<_, _≤_}
 use lib.ListN.{length, replicate}
+use Rattle.codes.specs.Answer.{accepted, mapAnswer}
+use Rattle.trace.specs.declared.answer.Pressures.{Pressures}
+use Rattle.trace.specs.declared.answer.Survey.{Survey}
+use Rattle.trace.specs.Answers.{readingValues}
+use Rattle.trace.specs.Trace.{aloneIn, surveyIn}
+use Rattle.lines.specs.declared.trouble.Trouble.{Trouble}
 use Rattle.lines.specs.Text.{text}
-use Rattle.lines.specs.Listing.{listing}
+use Rattle.lines.specs.Listing.{slotLine, totalLine, listing}
+use Rattle.lines.specs.Answers.{answerLine, surveyLine, bytesLine, lentLine}
+use Rattle.lines.specs.Trouble.{mostShown, shown, troubleLine}
+use Rattle.lines.specs.Report.{countLines, reported, report}
+
+-- ---- listings
 
 -- 'These bytes (hexadecimal; [n] is n zero bytes)': 01 02 E4 85 A2 D4 [5] [11] 01 06 CA CF FF 96 [5] 01 09 CA CF FF 96 [5] 00 00 00 2C 00 04 01 01
 unfoldable pub exampleFile : List ℕ
@@ -15,7 +26,7 @@ exampleFile =
     ++ ((0x01 ∷ 0x09 ∷ 0xCA ∷ 0xCF ∷ 0xFF ∷ 0x96 ∷ replicate 5 0)
     ++ (0x00 ∷ 0x00 ∷ 0x00 ∷ 0x2C ∷ 0x00 ∷ 0x04 ∷ 0x01 ∷ 0x01 ∷ []))))
 
--- 'print' document 01's listing, from its bytes to its text
+-- they 'print' the scope's listing, from its bytes to its text
 abbrev pub Example : Type 0
 Example = listing exampleFile ≡ text "0 read 74 2385 2 0\n1 blank\n2 lost\n3 over 0 0 0\ntotal 4 1 1 1 1 0\n"
 
@@ -29,3 +40,97 @@ pub record OtherListings : Type 0 where
   pub none : listing [] ≡ text "refused 7\n"
   pub zeros : listing (replicate 8 0) ≡ text "refused 8\n"
   pub bad : listing badFile ≡ text "0 bad\ntotal 1 0 0 0 0 1\n"
+
+-- lines whose numbers tell their places apart
+pub record ListedNumbers : Type 0 where
+  pub read : slotLine 8 (accepted (record { step = 7; reading = 4094; wrong = 1; marks = 2 })) ≡ text "8 read 7 4094 1 2\n"
+  pub over : slotLine 9 (accepted (record { step = 7; reading = 4095; wrong = 1; marks = 2 })) ≡ text "9 over 7 1 2\n"
+  pub total : totalLine 20 (record { blank = 6; read = 5; over = 4; lost = 3; bad = 2 }) ≡ text "total 20 6 5 4 3 2\n"
+
+-- ---- reports
+
+-- the report of the same file: one pressure, and a slot of each other status but bad
+abbrev pub ExampleReport : Type 0
+ExampleReport =
+    report exampleFile
+    ≡ text "smallest pressure 2385\n"
+    ++ (text "largest pressure 2385\n"
+    ++ (text "mean pressure 2385, rounded down\n"
+    ++ (text "slots 4\n"
+    ++ (text "read 1: pressures, 0 to 4094; smallest, largest and mean are of these alone\n"
+    ++ (text "over 1: the converter topped out at 4095, and the pressure is unknown\n"
+    ++ (text "lost 1: too much is damaged to say what the reading was\n"
+    ++ (text "bad 0: bytes that no call writes\n"
+    ++ text "blank 1: nothing is stored\n")))))))
+
+-- a survey whose numbers tell their places apart
+abbrev pub manyNumbers : Survey
+manyNumbers =
+    record {
+      slots = 16;
+      counts = record { blank = 4; read = 6; over = 1; lost = 2; bad = 3 };
+      sum = 8112;
+      pressures = Pressures.Present 1310 1409 1352;
+    }
+
+-- refused files, one without a pressure, and that survey
+pub record OtherReports : Type 0 where
+  pub long : (file : List ℕ) → 65536 < length file → report file ≡ text "refused 7: the file has fewer than 8 bytes, or more than 65536\n"
+  pub none : report [] ≡ text "refused 7: the file has fewer than 8 bytes, or more than 65536\n"
+  pub zeros : report (replicate 8 0) ≡ text "refused 8: the file does not end with the trailer of a trace that fits in it\n"
+  pub bad :
+      report badFile
+      ≡ text "no pressure: nothing to set a limit from\n" ++ countLines 1 (record { blank = 0; read = 0; over = 0; lost = 0; bad = 1 })
+  pub numbers :
+      reported (accepted manyNumbers)
+      ≡ text "smallest pressure 1310\n"
+      ++ (text "largest pressure 1409\n"
+      ++ (text "mean pressure 1352, rounded down\n"
+      ++ (text "slots 16\n"
+      ++ (text "read 6: pressures, 0 to 4094; smallest, largest and mean are of these alone\n"
+      ++ (text "over 1: the converter topped out at 4095, and the pressure is unknown\n"
+      ++ (text "lost 2: too much is damaged to say what the reading was\n"
+      ++ (text "bad 3: bytes that no call writes\n"
+      ++ text "blank 4: nothing is stored\n")))))))
+
+-- ---- the answers to a script's lines
+
+-- calls on the same two files, with and without a pressure; bytes and sizes
+pub record AnswerLines : Type 0 where
+  pub done : answerLine (accepted []) ≡ text "ok\n"
+  pub read : answerLine (mapAnswer readingValues (aloneIn exampleFile 0)) ≡ text "ok 74 2385 2 0\n"
+  pub blank : answerLine (mapAnswer readingValues (aloneIn exampleFile 1)) ≡ text "refused 11\n"
+  pub lost : answerLine (mapAnswer readingValues (aloneIn exampleFile 2)) ≡ text "refused 5\n"
+  pub survey : surveyLine (surveyIn exampleFile) ≡ text "ok 1 1 1 1 0 2385 2385 2385 2385\n"
+  pub numbers : surveyLine (accepted manyNumbers) ≡ text "ok 4 6 1 2 3 8112 1310 1409 1352\n"
+  pub absent : surveyLine (surveyIn badFile) ≡ text "ok 0 0 0 0 1 0 - - -\n"
+  pub refused : surveyLine (surveyIn []) ≡ text "refused 7\n"
+  pub bytes : bytesLine (0x00 ∷ 0x2C ∷ 0xE4 ∷ 0xFF ∷ []) ≡ text "002CE4FF\n"
+  pub lent : lentLine 65536 ≡ text "ok 65536\n"
+
+-- what can't be played: a tab, an escape and a backslash are made visible, and a long line is cut
+pub record TroubleLines : Type 0 where
+  pub unreadable : troubleLine 31 Trouble.Unreadable (text "jump\t3 \u{1b}[2J \\") ≡ text "line 31 unreadable: jump\\x093 \\x1B[2J \\x5C\n"
+  pub notLent : troubleLine 1 Trouble.NotLent (text "more than 65536 bytes") ≡ text "line 1 not lent: more than 65536 bytes\n"
+  pub notRead : troubleLine 2 Trouble.NotRead (text "gone.trace") ≡ text "line 2 not read: gone.trace\n"
+  pub notWritten : troubleLine 3 Trouble.NotWritten (text "/") ≡ text "line 3 not written: /\n"
+  pub long : troubleLine 4 Trouble.Unreadable (replicate 73 65) ≡ text "line 4 unreadable: " ++ (replicate 72 65 ++ text "...\n")
+
+-- ---- text made visible
+
+-- every number of a list has a property
+abbrev pub AllOf : (ℕ → Type 0) → List ℕ → Type 0
+AllOf P [] = Unit {0}
+AllOf P (n ∷ ns) = P n × AllOf P ns
+
+abbrev pub Bytes : List ℕ → Type 0
+Bytes = AllOf λ n. n < 256
+
+-- printable ASCII characters
+abbrev pub Printable : List ℕ → Type 0
+Printable = AllOf λ n. (32 ≤ n) × (n ≤ 126)
+
+-- no control character is shown, and a text of at most 72 bytes looks like no other text
+pub record VisibleTexts : Type 0 where
+  pub printable : (t : List ℕ) → Bytes t → Printable (shown t)
+  pub apart : (t u : List ℕ) → Bytes t → Bytes u → length t ≤ mostShown → shown t ≡ shown u → t ≡ u

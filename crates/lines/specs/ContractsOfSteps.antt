@@ -1,4 +1,4 @@
--- What the steps of a listing promise each other: the contract of a function that writes a text. No claim rests on this file but by the proofs.
+-- What the steps of a text promise each other: the contract of a function that writes a part of it. No claim rests on this file but by the proofs.
 use mathlib.Core.Path.{_≡_}
 use mathlib.Core.List.{List, _++_}
 use Prim.Native.Nat.{ℕ, _+_}

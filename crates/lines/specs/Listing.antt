@@ -1,5 +1,4 @@
--- What the listing program prints for a file (document 01, end of 'Words to try'), over what reads of its slots and a survey of it answer.
-use mathlib.Core.Bool.{cond}
+-- What the listing program prints for a file, over what reads of its slots and a survey of it answer.
 use mathlib.Core.List.{List, [], _∷_, _++_}
 use Prim.Native.Nat.{ℕ, zero, suc}
 use Rattle.codes.specs.Answer.{Answer, accepted, refused}
@@ -9,13 +8,9 @@ use Rattle.trace.specs.declared.answer.Survey.{Survey}
 use Rattle.trace.specs.declared.status.Status.{Status}
 use Rattle.trace.specs.Answers.{readingValues, countsValues}
 use Rattle.trace.specs.Survey.{statusOf}
-use Rattle.trace.specs.Trace.{aloneIn, surveyIn}
-use Rattle.lines.specs.Text.{text, decimal, spaced}
-use Rattle.lines.specs.Input.{isTooLong}
-
--- a text, numbers after it, and a newline
-unfoldable pub line : List ℕ → List ℕ → List ℕ
-line t numbers = t ++ (spaced numbers ++ text "\n")
+use Rattle.trace.specs.Trace.{aloneIn}
+use Rattle.lines.specs.Text.{text, decimal, line}
+use Rattle.lines.specs.Input.{surveyFile}
 
 -- ---- a slot's line
 
@@ -66,4 +61,4 @@ listed file (refused number) = refusedLine number
 
 -- 'A refused file, or one above 64 KiB (as 7), prints one line only'
 unfoldable pub listing : List ℕ → List ℕ
-listing file = cond (isTooLong file) (refusedLine 7) (listed file (surveyIn file))
+listing file = listed file (surveyFile file)

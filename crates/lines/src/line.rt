@@ -1,4 +1,4 @@
-// The lines of a listing. Each function writes one, or the rest of one, from `at` on and answers where it ends.
+// Lines, and those of a listing. Each function writes one, or the rest of one, from `at` on and answers where it ends.
 use crate::text::write_decimal;
 use crate::text::write_numbers;
 use crate::text::write_text;
@@ -8,19 +8,36 @@ use trace::Status;
 ghost use Prim.Native.Nat.{_+_, _*_, _≤_};
 ghost use lib.ListN.{length};
 ghost use Rattle.trace.specs.Answers.{readAnswer};
-ghost use Rattle.lines.specs.Listing.{line, statusWord, ending, slotLine, totalLine, refusedLine};
+ghost use Rattle.lines.specs.Text.{noted, line};
+ghost use Rattle.lines.specs.Listing.{statusWord, ending, slotLine, totalLine, refusedLine};
 ghost use Rattle.lines.specs.ContractsOfSteps.{Written};
 
+// Text, numbers, a note, a newline.
+pub(crate) fn write_noted(
+    out: &mut [u8],
+    at: usize,
+    text: &[u8],
+    numbers: &[u64],
+    note: &[u8],
+) -> usize
+    requires { ⌜ at + length (now text) + 21 * length (now numbers) + length (now note) + 1 ≤ length (now out) ⌝ }
+    ensures { λ r. ⌜ Written (now (out .entry)) at (noted (now (text .entry)) (now (numbers .entry)) (now (note .entry))) (now (out .exit)) r ⌝ }
+    ensures { λ r. ⌜ r ≤ at + length (now (text .entry)) + 21 * length (now (numbers .entry)) + length (now (note .entry)) + 1 ⌝ }
+{
+    let named = write_text(out, at, text);
+    let numbered = write_numbers(out, named, numbers);
+    let end = write_text(out, numbered, note);
+    out[end] = b'\n';
+    end + 1
+}
+
 // Text, numbers, a newline.
-fn write_line(out: &mut [u8], at: usize, text: &[u8], numbers: &[u64]) -> usize
+pub(crate) fn write_line(out: &mut [u8], at: usize, text: &[u8], numbers: &[u64]) -> usize
     requires { ⌜ at + length (now text) + 21 * length (now numbers) + 1 ≤ length (now out) ⌝ }
     ensures { λ r. ⌜ Written (now (out .entry)) at (line (now (text .entry)) (now (numbers .entry))) (now (out .exit)) r ⌝ }
     ensures { λ r. ⌜ r ≤ at + length (now (text .entry)) + 21 * length (now (numbers .entry)) + 1 ⌝ }
 {
-    let named = write_text(out, at, text);
-    let end = write_numbers(out, named, numbers);
-    out[end] = b'\n';
-    end + 1
+    write_noted(out, at, text, numbers, b"")
 }
 
 // What follows the slot: its status, numbers, a newline.
@@ -78,7 +95,7 @@ pub(crate) fn total_line(out: &mut [u8], at: usize, slots: u64, counts: Counts) 
     write_line(out, at, b"total", &numbers)
 }
 
-// The only line of a refused file.
+// The line of a refused call, and the only one of a refused file.
 pub(crate) fn refused_line(out: &mut [u8], number: u64) -> usize
     requires { ⌜ 29 ≤ length (now out) ⌝ }
     ensures { λ r. ⌜ Written (now (out .entry)) 0 (refusedLine number) (now (out .exit)) r ⌝ }

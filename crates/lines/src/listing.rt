@@ -1,18 +1,16 @@
 // The listing of a file.
 use crate::input::INPUT;
-use crate::input::is_too_long;
+use crate::input::survey_input;
 use crate::line::refused_line;
 use crate::line::slot_line;
 use crate::line::total_line;
-use trace::Refusal;
 use trace::SurveyAnswer;
-ghost use mathlib.Core.Path.{_≡_};
-ghost use mathlib.Core.Bool.{false};
 ghost use Prim.Native.Nat.{_*_, _≤_};
-ghost use lib.ListN.{length, take, drop};
+ghost use lib.ListN.{length};
 ghost use Rattle.trace.specs.Trace.{aloneIn};
-ghost use Rattle.lines.specs.Input.{isTooLong, InputBuffer, readInto};
+ghost use Rattle.lines.specs.Input.{InputBuffer, readInto};
 ghost use Rattle.lines.specs.Listing.{slotLines, listing};
+ghost use Rattle.lines.specs.Text.{Begins, Lendable};
 ghost use Rattle.lines.specs.ContractsOfSteps.{Written};
 
 // Every listing fits: 4,000 lines of at most 110 bytes, and a last one of at most 132.
@@ -33,34 +31,20 @@ fn slot_lines(file: &[u8], slots: u64, out: &mut [u8]) -> usize
     end
 }
 
-// Writes the listing of a file that is not too long.
-fn list_file(file: &[u8], out: &mut [u8; TEXT]) -> usize
-    requires { ⌜ isTooLong (now file) ≡ false ⌝ }
-    ensures { λ r. ⌜ Written (now (out .entry)) 0 (listing (now (file .entry))) (now (out .exit)) r ⌝ }
-    ensures { λ r. ⌜ r ≤ length (now (out .exit)) ⌝ }
+// Writes the listing of a file, of which `size` bytes were read into a buffer, and answers its length; the bytes behind it stay.
+pub fn list(input: &[u8; INPUT], size: usize, out: &mut [u8; TEXT]) -> usize
+    ensures { λ r. ⌜ InputBuffer (now (input .entry))
+        × Begins (now (out .entry)) (listing (readInto (now (input .entry)) size)) (now (out .exit)) r ⌝ }
+    ensures { λ r. ⌜ Lendable (now (out .exit)) r ⌝ }
 {
-    match trace::survey(file) {
+    match survey_input(input, size) {
         SurveyAnswer::Refused(r) => refused_line(out, r.number()),
         SurveyAnswer::Surveyed(s) => {
             let slots = s.slots;
             let counts = s.counts;
-            let end = slot_lines(file, slots, out);
+            let bytes: &[u8] = input;
+            let end = slot_lines(&bytes[..size], slots, out);
             total_line(out, end, slots, counts)
         }
     }
-}
-
-// Writes the listing of a file, of which `size` bytes were read into a buffer, and answers its length; the bytes behind it stay. That the
-// length is the text's is said apart, so that callers lend `&out[..r]` without a proof.
-pub fn list(input: &[u8; INPUT], size: usize, out: &mut [u8; TEXT]) -> usize
-    ensures { λ r. ⌜ InputBuffer (now (input .entry))
-        × (take r (now (out .exit)) ≡ listing (readInto (now (input .entry)) size))
-        × (drop r (now (out .exit)) ≡ drop r (now (out .entry))) ⌝ }
-    ensures { λ r. ⌜ (r ≤ length (now (out .exit))) × (r ≡ length (take r (now (out .exit)))) ⌝ }
-{
-    if is_too_long(input, size) {
-        return refused_line(out, Refusal::BufferShort.number());
-    }
-    let bytes: &[u8] = input;
-    list_file(&bytes[..size], out)
 }

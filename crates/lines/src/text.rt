@@ -2,7 +2,7 @@
 ghost use mathlib.Core.Path.{_≡_};
 ghost use Prim.Native.Nat.{_+_, _*_, _≤_, _<_};
 ghost use lib.ListN.{length};
-ghost use Rattle.lines.specs.Text.{decimal, spaced};
+ghost use Rattle.lines.specs.Text.{decimal, hexDigit, hex, each, spaced};
 ghost use Rattle.lines.specs.ContractsOfSteps.{Written};
 
 // The character of a digit.
@@ -53,6 +53,44 @@ pub(crate) fn write_numbers(out: &mut [u8], at: usize, numbers: &[u64]) -> usize
     while i < numbers.len() {
         out[end] = b' ';
         end = write_decimal(out, end + 1, numbers[i]);
+        i += 1;
+    }
+    end
+}
+
+// The character of a hexadecimal digit, in upper case.
+fn hex_digit(d: u8) -> u8
+    requires { ⌜ d < 16 ⌝ }
+    ensures { λ r. ⌜ r ≡ hexDigit d ⌝ }
+{
+    if d < 10 {
+        return 48 + d;
+    }
+    55 + d
+}
+
+// A byte as two hexadecimal digits.
+pub(crate) fn write_hex(out: &mut [u8], at: usize, byte: u8) -> usize
+    requires { ⌜ at + 2 ≤ length (now out) ⌝ }
+    ensures { λ r. ⌜ Written (now (out .entry)) at (hex byte) (now (out .exit)) r ⌝ }
+    ensures { λ r. ⌜ r ≡ at + 2 ⌝ }
+{
+    out[at] = hex_digit(byte / 16);
+    let next = at + 1;
+    out[next] = hex_digit(byte % 16);
+    next + 1
+}
+
+// Each byte as two hexadecimal digits.
+pub(crate) fn write_hexes(out: &mut [u8], at: usize, bytes: &[u8]) -> usize
+    requires { ⌜ at + 2 * length (now bytes) ≤ length (now out) ⌝ }
+    ensures { λ r. ⌜ Written (now (out .entry)) at (each hex (now (bytes .entry))) (now (out .exit)) r ⌝ }
+    ensures { λ r. ⌜ r ≡ at + 2 * length (now (bytes .entry)) ⌝ }
+{
+    let mut end = at;
+    let mut i = 0;
+    while i < bytes.len() {
+        end = write_hex(out, end, bytes[i]);
         i += 1;
     }
     end

@@ -1,7 +1,10 @@
-// Replays a script of trace calls from standard input, one call a line, on one buffer, and writes a line for each.
+// Plays a script of trace calls on one buffer, one line after the other, and writes a line for each.
 //
-//     buffer 63          lends 63 zero bytes (a number has at most five digits)
-//     buffer 0102E4..    lends these bytes, in hexadecimal
+//     # words            nothing, as a blank line
+//     buffer 63          lends 63 zero bytes
+//     hex 01 02 E4       lends these bytes
+//     open FILE          lends the bytes of a file, whose name is the rest of the line
+//     save FILE          writes the lent bytes to a file
 //     make 1 4           code, slots
 //     put 0 74 2385      slot, step, reading
 //     flip 0 3           slot, position
@@ -9,88 +12,127 @@
 //     clear 2            slot
 //     read 0             slot: `ok` with step, reading, wrong, marks
 //     survey             `ok` with blank, read, over, lost, bad, sum, smallest, largest, mean; `-` for what is absent
-//     bytes              the buffer, in hexadecimal
+//     bytes              the lent bytes, in hexadecimal
 //
-// A call that is refused gets `refused` and its number. A line that can't be read is given back after `unreadable: `, and
-// changes nothing. Until the first `buffer` line the buffer is empty. A script has at most 65,536 bytes, and so has the buffer.
-mod answers;
-mod lending;
+// A call that is refused gets `refused` and its number. A line that can't be read, or that lends, opens or saves in vain, gets its number
+// and what is wrong with it, and the lent bytes stay. Until something is lent there are none.
+mod play;
 
-use answers::write_bytes;
-use answers::write_done;
-use answers::write_read;
-use answers::write_survey;
-use answers::write_text;
-use lending::Lent;
-use lending::lend;
-use libc::STDIN_FILENO;
-use lines::INPUT;
+use files::Input;
 use lines::LONGEST;
-use script::Command;
-use script::ScriptSize;
-use script::find;
-use script::parse_line;
-use script::script_size;
+use lines::Trouble;
+use play::play;
+use play::print_trouble;
+use script::LINE;
+use script::hold;
+use script::is_whole;
 ghost use mathlib.Core.Path.{_≡_};
 ghost use Prim.Native.Nat.{_≤_};
 ghost use lib.ListN.{length};
 ghost use Rattle.lines.specs.Input.{longest};
 
-// Makes a call on the lent bytes, and writes its answer.
-fn call(b: &mut [u8], command: Command) {
-    match command {
-        Command::Make(code, slots) => write_done(trace::make(b, code, slots)),
-        Command::Put(slot, step, reading) => write_done(trace::put(b, slot, step, reading)),
-        Command::Flip(slot, position) => write_done(trace::flip(b, slot, position)),
-        Command::Mark(slot, position) => write_done(trace::mark(b, slot, position)),
-        Command::Clear(slot) => write_done(trace::clear(b, slot)),
-        Command::Read(slot) => write_read(trace::read(b, slot)),
-        Command::Survey => write_survey(trace::survey(b)),
-        Command::Bytes => write_bytes(b),
-        Command::Unreadable => (),
-    }
+// How far a script is played.
+struct Progress {
+    // How many bytes of the next line are held.
+    held: usize,
+    // The next line's number.
+    number: u64,
+    // How many bytes are lent.
+    lent: usize,
 }
 
-// Plays a line on the first `size` bytes of the buffer, and answers how many are lent from then on.
-fn play(line: &[u8], buffer: &mut [u8], size: usize) -> usize
-    requires { ⌜ (length (now buffer) ≡ longest) × (size ≤ longest) ⌝ }
+// The number of the line after one of this number; the last number stays.
+fn following(number: u64) -> u64 {
+    if number == u64::MAX {
+        return number;
+    }
+    number + 1
+}
+
+// Plays the line that is held, where it is whole, and answers how many bytes are lent from then on.
+fn play_held(line: &[u8; LINE], buffer: &mut [u8], p: Progress) -> usize
+    requires { ⌜ (length (now buffer) ≡ longest) × (p .lent ≤ longest) ⌝ }
     ensures { λ r. ⌜ r ≤ longest ⌝ }
 {
-    if let Lent::Bytes(n) = lend(line, buffer) {
-        write_text(b"ok\n");
-        return n;
+    let held = p.held;
+    if !is_whole(held) {
+        print_trouble(p.number, Trouble::Unreadable, b"more than 200000 bytes");
+        return p.lent;
     }
-    let c = parse_line(line);
-    if let Command::Unreadable = c {
-        write_text(b"unreadable: ");
-        write_text(line);
-        write_text(b"\n");
-        return size;
-    }
-    call(&mut buffer[..size], c);
-    size
+    let bytes: &[u8] = line;
+    play(&bytes[..held], p.number, buffer, p.lent)
 }
 
-// Plays the lines of a script, of which `size` bytes were read, one after the other; one that is too long is not played.
-fn replay(input: &[u8; INPUT], size: usize) {
-    let ScriptSize::Bytes(n) = script_size(input, size) else {
-        write_text(b"unreadable: more than 65536 bytes\n");
-        return;
-    };
-    let bytes: &[u8] = input;
-    let text = &bytes[..n];
-    let mut buffer = [0u8; LONGEST];
-    let mut lent = 0;
-    let mut at = 0;
-    while at < text.len() {
-        let end = find(text, at, b'\n');
-        lent = play(&text[at..end], &mut buffer, lent);
-        at = end + 1;
+// Takes the next byte of a script: it is held, or ends the line that is held, which is played.
+fn take(byte: u8, line: &mut [u8; LINE], buffer: &mut [u8], p: Progress) -> Progress
+    requires { ⌜ (length (now buffer) ≡ longest) × (p .lent ≤ longest) ⌝ }
+    ensures { λ r. ⌜ r .lent ≤ longest ⌝ }
+{
+    let number = p.number;
+    if byte == b'\n' {
+        let lent = play_held(line, buffer, p);
+        return Progress {
+            held: 0,
+            number: following(number),
+            lent,
+        };
     }
+    Progress {
+        held: hold(byte, line, p.held),
+        number,
+        lent: p.lent,
+    }
+}
+
+// Takes the bytes that a read gave.
+fn take_all(bytes: &[u8], line: &mut [u8; LINE], buffer: &mut [u8], p: Progress) -> Progress
+    requires { ⌜ (length (now buffer) ≡ longest) × (p .lent ≤ longest) ⌝ }
+    ensures { λ r. ⌜ r .lent ≤ longest ⌝ }
+{
+    let mut progress = p;
+    let mut i = 0;
+    while i < bytes.len() {
+        progress = take(bytes[i], line, buffer, progress);
+        i += 1;
+    }
+    progress
+}
+
+// Takes standard input as it comes, until it ends or can't be read. A proved loop has to end, so this one counts its reads down from a number
+// that no run uses up.
+fn take_input(line: &mut [u8; LINE], buffer: &mut [u8], p: Progress) -> Progress
+    requires { ⌜ (length (now buffer) ≡ longest) × (p .lent ≤ longest) ⌝ }
+    ensures { λ r. ⌜ r .lent ≤ longest ⌝ }
+{
+    let mut input = [0u8; LONGEST];
+    let mut progress = p;
+    let mut reads = u64::MAX;
+    while 0 < reads {
+        let Input::Bytes(n) = files::read_next(&mut input) else {
+            // What is held is no whole line.
+            progress.held = 0;
+            return progress;
+        };
+        if n == 0 {
+            return progress;
+        }
+        progress = take_all(&input[..n], line, buffer, progress);
+        reads -= 1;
+    }
+    progress
 }
 
 fn main() {
-    let mut input = [0u8; INPUT];
-    let size = io::read_full(STDIN_FILENO, &mut input);
-    replay(&input, size);
+    let mut line = [0u8; LINE];
+    let mut buffer = [0u8; LONGEST];
+    let first = Progress {
+        held: 0,
+        number: 1,
+        lent: 0,
+    };
+    let last = take_input(&mut line, &mut buffer, first);
+    // The last line may be without a newline.
+    if 0 < last.held {
+        play_held(&line, &mut buffer, last);
+    }
 }

@@ -1,5 +1,16 @@
--- What the crates above may cite: the test of two texts.
-pub mod Naming
--- The number of a word, digit by digit, and a line's words, one after the other.
-mod Numerals
+-- What the layers above may cite: the claims.
+pub mod Claims
+-- A line that is held byte by byte.
+mod Holds
+-- Calls on traces that are given byte for byte.
+mod Calls
+-- A line's ends, its words and their numbers.
+mod Blanks
 mod Splitting
+mod Numerals
+-- Bytes in hexadecimal, pair by pair.
+mod Pairing
+-- The test of two texts, and the command of a name.
+mod Naming
+-- Lent bytes at the front of a buffer.
+mod Lends

@@ -1,12 +1,16 @@
--- The test of two texts is true where they are equal and only there, so any Boolean that is so is that test.
+-- The test of two texts is true where they are equal and only there, so any Boolean that is so is that test. And the commands whose argument
+-- is no number: each way that its bytes or its length decide.
 use mathlib.Core.Path.{_≡_, refl, sym, _∙_}
 use mathlib.Core.Bool.{Bool, true, false, _&&_}
 use mathlib.Core.List.{List, [], _∷_}
+use mathlib.Core.Option.{some}
 use Prim.Native.Nat.{ℕ}
 use native.Mathlib.Omega.{arith}
 use lib.Dec.{eqb}
 use borrow.Author.Tests.{eq-eqb, eqb-true}
-use Rattle.script.specs.Script.{is}
+use lib.ListN.{length}
+use Rattle.script.specs.declared.line.Command.{Command}
+use Rattle.script.specs.Script.{is, hexCommand, fileCommand}
 
 is-refl : (a : List ℕ) → is a a ≡ true
 unfolding is
@@ -31,3 +35,21 @@ is-same false a b f g = go (is a b) refl
     go : (t : Bool) → is a b ≡ t → false ≡ is a b
     go true t = g (is-true a b t) ∙ sym t
     go false t = sym t
+
+-- ---- arguments that are no numbers
+
+pub hex-empty : (xs : List ℕ) → length xs ≡ 0 → Command.Unreadable ≡ hexCommand (some xs)
+hex-empty [] e = refl
+hex-empty (x ∷ xs) e = absurd (omega arith)
+
+pub hex-filled : (xs : List ℕ) → (length xs ≡ 0 → ⊥) → Command.Hex ≡ hexCommand (some xs)
+hex-filled [] e = absurd (e refl)
+hex-filled (x ∷ xs) e = refl
+
+pub file-empty : (command : Command) (l : List ℕ) → length l ≡ 0 → Command.Unreadable ≡ fileCommand command l
+file-empty command [] e = refl
+file-empty command (c ∷ cs) e = absurd (omega arith)
+
+pub file-named : (command : Command) (l : List ℕ) → (length l ≡ 0 → ⊥) → command ≡ fileCommand command l
+file-named command [] e = absurd (e refl)
+file-named command (c ∷ cs) e = refl

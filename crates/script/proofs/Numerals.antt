@@ -8,7 +8,7 @@ use native.Mathlib.Numerals.{add-one}
 use lib.ListN.{length, drop, getD}
 use lib.Seq.{drop-cons}
 use borrow.Author.Tests.{lt-ltb, le-ltb, le-leb, lt-leb}
-use Rattle.script.specs.declared.words.Number.{Number}
+use Rattle.script.specs.declared.numbers.Number.{Number}
 use Rattle.script.specs.Script.{digitOn, digitsOn, numberOf}
 
 pub digit-below : (n c : ℕ) → c < 48 → Number.Nothing ≡ digitOn n c

@@ -1,64 +1,94 @@
--- A line's words, one after the other: the first ends where the first space stands, and the others are the words behind that space. So a
--- walk that looks for the next space, reads the word up to it, and goes on there, reads every word.
-use mathlib.Core.Path.{_≡_, refl}
+-- A text's words, one after the other: blanks in front make no word; where none is in front, the first word ends where the first blank
+-- stands, and the others are the words of what is left. So a walk that skips blanks, reads the word up to the next one, and goes on there,
+-- reads every word.
+use mathlib.Core.Path.{_≡_, refl, ap, _∙_}
 use mathlib.Core.Bool.{Bool, true, false, cond}
 use mathlib.Core.List.{List, [], _∷_}
-use Prim.Native.Nat.{ℕ, suc, _+_, _-_, _<_, _≤_}
+use Prim.Native.Nat.{ℕ, _+_, _-_, _<_}
 use native.Mathlib.Omega.{arith}
-use native.Mathlib.Numerals.{add-one}
-use lib.Dec.{eqb}
-use lib.ListN.{length, take, drop, getD, drop-of-length-le}
-use lib.Seq.{drop-cons, drop-drop}
+use lib.ListN.{length, take, drop, getD, length-drop}
+use lib.Seq.{take-all, drop-drop}
 use borrow.Author.Tests.{eq-eqb, ne-eqb}
-use Rattle.script.specs.declared.words.Number.{Number}
-use Rattle.script.specs.declared.line.Numbers.{Numbers}
-use Rattle.script.specs.Script.{before, onto, words, numberOf, andOn, numbersOn, commandOf, meaning}
-use Rattle.script.specs.ContractsOfSteps.{rest}
+use Rattle.script.specs.declared.numbers.Number.{Number}
+use Rattle.script.specs.declared.numbers.Numbers.{Numbers}
+use Rattle.script.specs.declared.line.Command.{Command}
+use Rattle.script.specs.Script.{isBlank, skipBlanks, word, onto, pieces, filled, words, behind}
+use Rattle.script.specs.Script.{numberOf, andOn, numbersOn, commands, chosen, spoken}
+use Rattle.script.proofs.Blanks.{Starts, behind-at}
 
-pub before-here : (byte : ℕ) (b : List ℕ) (i : ℕ) → i < length b → getD b i 0 ≡ byte → length (before byte (drop i b)) ≡ 0
-unfolding before
-before-here byte b i h e = simp (drop-cons b i 0 h, eq-eqb (getD b i 0) byte e)
+-- the pieces of what stands behind a piece: none at the end, else those after the blank
+abbrev rest : List ℕ → List (List ℕ)
+rest [] = []
+rest (blank ∷ cs) = pieces cs
 
-pub before-beyond : (byte : ℕ) (b : List ℕ) (i : ℕ) → length b ≤ i → length (before byte (drop i b)) ≡ 0
-unfolding before
-before-beyond byte b i h = simp (drop-of-length-le b h)
-
-pub before-next : (byte : ℕ) (b : List ℕ) (i : ℕ) → i < length b → (getD b i 0 ≡ byte → ⊥)
-    → length (before byte (drop i b)) ≡ suc (length (before byte (drop (suc i) b)))
-unfolding before
-before-next byte b i h e = simp (drop-cons b i 0 h, ne-eqb (getD b i 0) byte e)
-
-pub words-before : (l : List ℕ) → words l ≡ before 32 l ∷ rest (drop (length (before 32 l)) l)
-unfolding words before
-words-before [] = refl
-words-before (c ∷ cs) = go (eqb c 32) (words-before cs)
+pieces-first : (l : List ℕ) → pieces l ≡ word l ∷ rest (drop (length (word l)) l)
+unfolding pieces word
+pieces-first [] = refl
+pieces-first (c ∷ cs) = go (isBlank c) (pieces-first cs)
   where
-    go : (space : Bool) → words cs ≡ before 32 cs ∷ rest (drop (length (before 32 cs)) cs)
-        → cond space ([] ∷ words cs) (onto c (words cs))
-        ≡ cond space [] (c ∷ before 32 cs) ∷ rest (drop (length (cond space [] (c ∷ before 32 cs))) (c ∷ cs))
+    go : (blank : Bool) → pieces cs ≡ word cs ∷ rest (drop (length (word cs)) cs)
+        → cond blank ([] ∷ pieces cs) (onto c (pieces cs))
+        ≡ cond blank [] (c ∷ word cs) ∷ rest (drop (length (cond blank [] (c ∷ word cs))) (c ∷ cs))
     go true e = refl
     go false e = rw e
 
-pub take-before : (l : List ℕ) → take (length (before 32 l)) l ≡ before 32 l
-unfolding before
-take-before [] = refl
-take-before (c ∷ cs) = go (eqb c 32) (take-before cs)
+words-rest : (l : List ℕ) → filled (rest (drop (length (word l)) l)) ≡ words (drop (length (word l)) l)
+unfolding pieces word words
+words-rest [] = refl
+words-rest (c ∷ cs) = go (isBlank c) refl (words-rest cs)
   where
-    go : (space : Bool) → take (length (before 32 cs)) cs ≡ before 32 cs
-        → take (length (cond space [] (c ∷ before 32 cs))) (c ∷ cs) ≡ cond space [] (c ∷ before 32 cs)
+    go : (blank : Bool) → isBlank c ≡ blank → filled (rest (drop (length (word cs)) cs)) ≡ filled (pieces (drop (length (word cs)) cs))
+        → filled (rest (drop (length (cond blank [] (c ∷ word cs))) (c ∷ cs)))
+        ≡ filled (pieces (drop (length (cond blank [] (c ∷ word cs))) (c ∷ cs)))
+    go true e more = rw e
+    go false e more = more
+
+words-first : (l : List ℕ) → 0 < length l → Starts l → words l ≡ word l ∷ words (drop (length (word l)) l)
+unfolding pieces word words
+words-first [] h e = absurd (omega arith)
+words-first (c ∷ cs) h e = rw e (rw (pieces-first cs) (ap (λ (ws : List (List ℕ)). (c ∷ word cs) ∷ ws) (words-rest cs)))
+
+pub words-skip : (l : List ℕ) → words (skipBlanks l) ≡ words l
+unfolding skipBlanks pieces words
+words-skip [] = refl
+words-skip (c ∷ cs) = go (isBlank c) refl (words-skip cs)
+  where
+    go : (blank : Bool) → isBlank c ≡ blank → words (skipBlanks cs) ≡ words cs → words (cond blank (skipBlanks cs) (c ∷ cs)) ≡ words (c ∷ cs)
+    go true e more = rw e more
+    go false e more = refl
+
+take-word : (l : List ℕ) → take (length (word l)) l ≡ word l
+unfolding word
+take-word [] = refl
+take-word (c ∷ cs) = go (isBlank c) (take-word cs)
+  where
+    go : (blank : Bool) → take (length (word cs)) cs ≡ word cs
+        → take (length (cond blank [] (c ∷ word cs))) (c ∷ cs) ≡ cond blank [] (c ∷ word cs)
     go true e = refl
     go false e = rw e
 
 -- ---- the numbers that are left
 
--- the word from `at + 1` to `end` is the next one
-pub numbers-step : (line : List ℕ) (at end : ℕ) (all : Numbers) → at < length line → end ≡ at + 1 + length (before 32 (drop (at + 1) line))
-    → numbersOn all (rest (drop at line)) ≡ numbersOn (andOn all (numberOf (take (end - (at + 1)) (drop (at + 1) line)))) (rest (drop end line))
-unfolding numbersOn
-numbers-step line at end all h e =
-    let l = drop (at + 1) line in
-    let size : end - (at + 1) ≡ length (before 32 l) = omega arith in
-    rw (drop-cons line at 0 h, ← add-one at, words-before l, size, take-before l, drop-drop, ← e)
+word-some : (l : List ℕ) → 0 < length l → Starts l → 0 < length (word l)
+unfolding word
+word-some [] h e = absurd (omega arith)
+word-some (c ∷ cs) h e = rw e (omega arith)
+
+-- no blank stands at `at`, and the word there ends at `end`
+module _ (b : List ℕ) (at end : ℕ) (inside : at < length b) (front : Starts (drop at b)) (ends : end ≡ at + length (word (drop at b))) where
+  some : 0 < length (drop at b)
+  some = simp length-drop (omega arith)
+
+  pub word-moves : at < end
+  word-moves = omega (arith, word-some (drop at b) some front)
+
+  pub numbers-step : (all : Numbers)
+      → numbersOn all (words (drop at b)) ≡ numbersOn (andOn all (numberOf (take (end - at) (drop at b)))) (words (drop end b))
+  unfolding numbersOn
+  numbers-step all =
+      let l = drop at b in
+      let size : end - at ≡ length (word l) = omega arith in
+      rw (words-first l some front, size, take-word l, drop-drop, ← ends)
 
 pub numbers-unreadable : (ws : List (List ℕ)) → numbersOn Numbers.Unreadable ws ≡ Numbers.Unreadable
 unfolding numbersOn
@@ -76,10 +106,28 @@ and-nothing (Numbers.Two a b) = refl
 and-nothing (Numbers.Three a b c) = refl
 and-nothing Numbers.Unreadable = refl
 
--- ---- the whole line
+-- ---- the bare line
 
--- a line means its first word with the numbers behind it
-pub meaning-first : (line : List ℕ) (end : ℕ) → end ≡ length (before 32 line)
-    → commandOf (take end line) (numbersOn Numbers.None (rest (drop end line))) ≡ meaning line
-unfolding meaning
-meaning-first line end e = rw (e, take-before line, words-before line)
+pub spoken-nothing : (l : List ℕ) → length l ≡ 0 → Command.Nothing ≡ spoken l
+unfolding spoken
+spoken-nothing [] e = refl
+spoken-nothing (c ∷ cs) e = absurd (omega arith)
+
+pub spoken-comment : (l : List ℕ) → (length l ≡ 0 → ⊥) → getD l 0 0 ≡ 35 → Command.Nothing ≡ spoken l
+unfolding spoken
+spoken-comment [] some e = absurd (some refl)
+spoken-comment (c ∷ cs) some e = simp (eq-eqb c 35 e)
+
+spoken-other : (l : List ℕ) → (length l ≡ 0 → ⊥) → (getD l 0 0 ≡ 35 → ⊥) → chosen (word l) (commands (behind l)) ≡ spoken l
+unfolding spoken
+spoken-other [] some e = absurd (some refl)
+spoken-other (c ∷ cs) some e = simp (ne-eqb c 35 e)
+
+-- the name ends at `end`, and the argument begins at `from`
+pub spoken-command : (l : List ℕ) (end from : ℕ) → (length l ≡ 0 → ⊥) → (getD l 0 0 ≡ 35 → ⊥) → end ≡ 0 + length (word l)
+    → drop from l ≡ skipBlanks (drop end l) → chosen (take end l) (commands (take (length l - from) (drop from l))) ≡ spoken l
+spoken-command l end from some other ends skip =
+    let size : end ≡ length (word l) = omega arith in
+    let name : take end l ≡ word l = rw size (take-word l) in
+    let text = take-all (length l - from) (drop from l) (rw length-drop (omega arith)) ∙ behind-at l end from ends skip in
+    rw (name, text) (spoken-other l some other)

@@ -1,17 +1,33 @@
--- What the steps say to each other and to the player. No line's meaning rests on it but by the proofs.
+-- What the steps say to each other. No line's meaning rests on it but by the proofs.
 use mathlib.Core.Path.{_≡_}
+use mathlib.Core.Bool.{Bool, false}
 use mathlib.Core.List.{List, [], _∷_}
-use Prim.Native.Nat.{ℕ}
-use lib.ListN.{length, take}
-use Rattle.script.specs.declared.input.ScriptSize.{ScriptSize}
-use Rattle.script.specs.Script.{words}
+use mathlib.Core.Option.{Option, none, some}
+use Prim.Native.Nat.{ℕ, _+_}
+use lib.ListN.{length, drop}
+use Rattle.script.specs.declared.hex.Pairs.{Pairs}
+use Rattle.script.specs.Script.{isPair}
 
--- the words of what stands behind a word: none at the line's end, else those after the space
-abbrev pub rest : List ℕ → List (List ℕ)
-rest [] = []
-rest (space ∷ cs) = words cs
+-- whether a text begins with two digits
+abbrev pub isPairFront : List ℕ → Bool
+isPairFront [] = false
+isPairFront (c ∷ []) = false
+isPairFront (c ∷ (d ∷ cs)) = isPair c d
 
--- the bytes of a script stand in its buffer, so that they can be lent
-abbrev pub Inside : List ℕ → ScriptSize → Type 0
-Inside buffer (ScriptSize.Bytes n) = n ≡ length (take n buffer)
-Inside buffer ScriptSize.TooLong = Unit {0}
+-- whether two digits stand at a place of a text
+abbrev pub isPairAt : List ℕ → ℕ → Bool
+isPairAt l at = isPairFront (drop at l)
+
+-- so many bytes, with those of a text
+abbrev pub pairsOn : ℕ → Option (List ℕ) → Pairs
+pairsOn n none = Pairs.Unreadable
+pairsOn n (some xs) = Pairs.Bytes (n + length xs)
+
+-- the bytes of a text
+abbrev pub listOf : Option (List ℕ) → List ℕ
+listOf none = []
+listOf (some xs) = xs
+
+-- a text has bytes
+abbrev pub IsList : Option (List ℕ) → Type 0
+IsList o = o ≡ some (listOf o)

@@ -1,5 +1,8 @@
--- What a reader must believe: how many bytes a script has, and what a line of it means.
-pub mod Input
+-- What a reader must believe: how a line of a script is taken, what it means, which bytes it lends, and what a call prints and leaves.
+pub mod Held
 pub mod Script
+pub mod Lending
+pub mod Answering
+pub mod Claims
 -- What the private steps say to each other. No line's meaning rests on it but by the proofs.
 pub mod ContractsOfSteps

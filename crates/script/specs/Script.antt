@@ -1,30 +1,82 @@
--- What a line of a script means: the name of a call and its numbers, a space between.
-use mathlib.Core.Bool.{Bool, true, false, cond, _&&_}
+-- What a line of a script means. A carriage return at its end and blanks around and between words are nothing. An empty line and a comment
+-- ask for nothing; of any other line the first word is a command's name, and the rest is its argument: numbers, bytes in hexadecimal, or a
+-- file's name.
+use mathlib.Core.Path.{_≡_}
+use mathlib.Core.Bool.{Bool, true, false, cond, _&&_, _||_}
 use mathlib.Core.List.{List, [], _∷_}
-use Prim.Native.Nat.{ℕ, _+_, _-_, _*_, _^_}
+use mathlib.Core.Option.{Option, none, some}
+use Prim.Native.Nat.{ℕ, _+_, _-_, _*_, _^_, _≤_}
+use Prim.Native.String.{String}
 use lib.Dec.{leb, ltb, eqb}
-use Rattle.script.specs.declared.words.Number.{Number}
-use Rattle.script.specs.declared.line.Numbers.{Numbers}
+use lib.ListN.{length, take, drop}
+use Rattle.script.specs.declared.numbers.Number.{Number}
+use Rattle.script.specs.declared.numbers.Numbers.{Numbers}
+use Rattle.script.specs.declared.line.Call.{Call}
 use Rattle.script.specs.declared.line.Command.{Command}
 -- quoted texts, for definitions above this crate too
 pub use Rattle.lines.specs.Text.{text}
 
+-- ---- blanks
+
+-- a space or a tab
+unfoldable pub isBlank : ℕ → Bool
+isBlank c = eqb c 32 || eqb c 9
+
+-- without the blanks in front
+unfoldable pub skipBlanks : List ℕ → List ℕ
+skipBlanks [] = []
+skipBlanks (c ∷ cs) = cond (isBlank c) (skipBlanks cs) (c ∷ cs)
+
+-- a byte before what is kept of the bytes behind it: a blank is kept only before something
+abbrev pub keep : ℕ → List ℕ → List ℕ
+keep c [] = cond (isBlank c) [] (c ∷ [])
+keep c (d ∷ ds) = c ∷ (d ∷ ds)
+
+-- without the blanks at the end
+unfoldable pub trimEnd : List ℕ → List ℕ
+trimEnd [] = []
+trimEnd (c ∷ cs) = keep c (trimEnd cs)
+
+-- without a carriage return at the end
+unfoldable pub withoutReturn : List ℕ → List ℕ
+withoutReturn [] = []
+withoutReturn (c ∷ []) = cond (eqb c 13) [] (c ∷ [])
+withoutReturn (c ∷ (d ∷ ds)) = c ∷ withoutReturn (d ∷ ds)
+
+-- a line without what is nothing at its ends
+unfoldable pub bare : List ℕ → List ℕ
+bare line = skipBlanks (trimEnd (withoutReturn line))
+
 -- ---- words
 
--- what stands before the first of a byte
-unfoldable pub before : ℕ → List ℕ → List ℕ
-before byte [] = []
-before byte (c ∷ cs) = cond (eqb c byte) [] (c ∷ before byte cs)
+-- what stands before the first blank
+unfoldable pub word : List ℕ → List ℕ
+word [] = []
+word (c ∷ cs) = cond (isBlank c) [] (c ∷ word cs)
 
--- a byte in front of the first word
+-- what stands behind the first word and the blanks after it
+unfoldable pub behind : List ℕ → List ℕ
+behind l = skipBlanks (drop (length (word l)) l)
+
+-- a byte in front of the first piece
 abbrev pub onto : ℕ → List (List ℕ) → List (List ℕ)
 onto c [] = []
-onto c (w ∷ ws) = (c ∷ w) ∷ ws
+onto c (p ∷ ps) = (c ∷ p) ∷ ps
 
--- what stands between spaces
+-- what stands between blanks
+unfoldable pub pieces : List ℕ → List (List ℕ)
+pieces [] = [] ∷ []
+pieces (c ∷ cs) = cond (isBlank c) ([] ∷ pieces cs) (onto c (pieces cs))
+
+-- the pieces that are not empty
+abbrev pub filled : List (List ℕ) → List (List ℕ)
+filled [] = []
+filled ([] ∷ ps) = filled ps
+filled ((c ∷ p) ∷ ps) = (c ∷ p) ∷ filled ps
+
+-- the words of a text
 unfoldable pub words : List ℕ → List (List ℕ)
-words [] = [] ∷ []
-words (c ∷ cs) = cond (eqb c 32) ([] ∷ words cs) (onto c (words cs))
+words l = filled (pieces l)
 
 -- ---- numbers
 
@@ -57,7 +109,74 @@ unfoldable pub numbersOn : Numbers → List (List ℕ) → Numbers
 numbersOn all [] = all
 numbersOn all (w ∷ ws) = numbersOn (andOn all (numberOf w)) ws
 
--- ---- calls
+-- ---- bytes in hexadecimal
+
+-- the value of a digit in either case; 16 of any other byte
+unfoldable pub hexValue : ℕ → ℕ
+hexValue c =
+    cond (leb 48 c && leb c 57) (c - 48)
+    (cond (leb 65 c && leb c 70) (c - 55)
+    (cond (leb 97 c && leb c 102) (c - 87) 16))
+
+-- both are digits
+abbrev pub isPair : ℕ → ℕ → Bool
+isPair c d = ltb (hexValue c) 16 && ltb (hexValue d) 16
+
+-- the byte of two digits
+abbrev pub hexByte : ℕ → ℕ → ℕ
+hexByte c d = hexValue c * 16 + hexValue d
+
+-- a byte before others, where these can be read
+abbrev pub byteOn : ℕ → Option (List ℕ) → Option (List ℕ)
+byteOn x none = none
+byteOn x (some xs) = some (x ∷ xs)
+
+-- the bytes that a text is: two digits are a byte, and blanks may stand between bytes; no bytes where it is anything else
+unfoldable pub hexBytes : List ℕ → Option (List ℕ)
+hexBytes [] = some []
+hexBytes (c ∷ []) = cond (isBlank c) (some []) none
+hexBytes (c ∷ (d ∷ cs)) = cond (isBlank c) (hexBytes (d ∷ cs)) (cond (isPair c d) (byteOn (hexByte c d) (hexBytes cs)) none)
+
+-- ---- commands
+
+-- the command whose argument is one byte or more, in hexadecimal
+abbrev pub hexCommand : Option (List ℕ) → Command
+hexCommand none = Command.Unreadable
+hexCommand (some []) = Command.Unreadable
+hexCommand (some (x ∷ xs)) = Command.Hex
+
+-- a command whose argument is a file's name
+abbrev pub fileCommand : Command → List ℕ → Command
+fileCommand command [] = Command.Unreadable
+fileCommand command (c ∷ cs) = command
+
+-- a name, and the command that it gives
+pub record Row : Type 0 where
+  pub name : List ℕ
+  pub command : Command
+
+-- a row of the table of commands, and of a call
+abbrev pub row : String → Command → Row
+row name command = record { name = text name; command = command }
+
+abbrev pub call : String → Call → Row
+call name c = row name (Command.Call c)
+
+-- the commands that have as many numbers
+abbrev pub numbered : Numbers → List Row
+numbered Numbers.None = call "survey" Call.Survey ∷ call "bytes" Call.Bytes ∷ []
+numbered (Numbers.One a) = row "buffer" (Command.Buffer a) ∷ call "clear" (Call.Clear a) ∷ call "read" (Call.Read a) ∷ []
+numbered (Numbers.Two a b) = call "make" (Call.Make a b) ∷ call "flip" (Call.Flip a b) ∷ call "mark" (Call.Mark a b) ∷ []
+numbered (Numbers.Three a b c) = call "put" (Call.Put a b c) ∷ []
+numbered Numbers.Unreadable = []
+
+-- all commands, with this argument
+abbrev pub commands : List ℕ → List Row
+commands argument =
+    row "hex" (hexCommand (hexBytes argument))
+    ∷ row "open" (fileCommand Command.Open argument)
+    ∷ row "save" (fileCommand Command.Save argument)
+    ∷ numbered (numbersOn Numbers.None (words argument))
 
 -- two texts are the same
 unfoldable pub is : List ℕ → List ℕ → Bool
@@ -66,26 +185,28 @@ is [] (d ∷ ds) = false
 is (c ∷ cs) [] = false
 is (c ∷ cs) (d ∷ ds) = eqb c d && is cs ds
 
--- a call's name with its numbers, as many as the call has
-unfoldable pub commandOf : List ℕ → Numbers → Command
-commandOf name Numbers.None =
-    cond (is name (text "survey")) Command.Survey
-    (cond (is name (text "bytes")) Command.Bytes Command.Unreadable)
-commandOf name (Numbers.One slot) =
-    cond (is name (text "read")) (Command.Read slot)
-    (cond (is name (text "clear")) (Command.Clear slot) Command.Unreadable)
-commandOf name (Numbers.Two a b) =
-    cond (is name (text "make")) (Command.Make a b)
-    (cond (is name (text "flip")) (Command.Flip a b)
-    (cond (is name (text "mark")) (Command.Mark a b) Command.Unreadable))
-commandOf name (Numbers.Three a b c) = cond (is name (text "put")) (Command.Put a b c) Command.Unreadable
-commandOf name Numbers.Unreadable = Command.Unreadable
+-- the command of this name, the first in the table
+unfoldable pub chosen : List ℕ → List Row → Command
+chosen name [] = Command.Unreadable
+chosen name (r ∷ rows) = cond (is name (r .name)) (r .command) (chosen name rows)
 
--- the first word is the name, the others are the numbers
-abbrev pub spoken : List (List ℕ) → Command
-spoken [] = Command.Unreadable
-spoken (name ∷ ws) = commandOf name (numbersOn Numbers.None ws)
+-- ---- lines
+
+-- what a line without blanks at its ends means: `#` begins a comment
+unfoldable pub spoken : List ℕ → Command
+spoken [] = Command.Nothing
+spoken (c ∷ cs) = cond (eqb c 35) Command.Nothing (chosen (word (c ∷ cs)) (commands (behind (c ∷ cs))))
 
 -- what a line means
 unfoldable pub meaning : List ℕ → Command
-meaning line = spoken (words line)
+meaning line = spoken (bare line)
+
+-- the argument of a line's command
+unfoldable pub argument : List ℕ → List ℕ
+argument line = behind (bare line)
+
+-- these bytes stand in a line, from `from` up to `end`
+pub record IsPart (line : List ℕ) (from end : ℕ) (bytes : List ℕ) : Type 0 where
+  pub ordered : from ≤ end
+  pub inside : end ≤ length line
+  pub are : take (end - from) (drop from line) ≡ bytes

@@ -1,12 +1,23 @@
-// A script in its buffer, and a line of it as a trace call with its numbers.
-mod input;
+// A line of a script, taken byte by byte, and what it asks for: its command, the part of it that is the command's argument, the bytes that it
+// lends, and what a call prints and leaves.
+mod answering;
+mod held;
+mod hex;
+mod lending;
 mod line;
-mod words;
+mod numbers;
+mod parts;
 
-pub use input::ScriptSize;
-pub use input::script_size;
+pub use answering::answer;
+pub use held::LINE;
+pub use held::hold;
+pub use held::is_whole;
+pub use lending::Lent;
+pub use lending::lend;
+pub use lending::lend_input;
+pub use line::Call;
 pub use line::Command;
 pub use line::parse_line;
-pub use words::Number;
-pub use words::find;
-pub use words::parse_number;
+pub use parts::Part;
+pub use parts::argument;
+pub use parts::bare;

@@ -1,19 +1,17 @@
-// A line as a call with its numbers.
-use crate::words::Number;
-use crate::words::find;
-use crate::words::parse_number;
+// A line as a command.
+use crate::hex::Pairs;
+use crate::hex::count_pairs;
+use crate::numbers::Numbers;
+use crate::numbers::parse_numbers;
+use crate::parts::bare;
+use crate::parts::skip_blanks;
+use crate::parts::word_end;
 use check::same;
 ghost use mathlib.Core.Path.{_≡_};
-ghost use Prim.Native.Nat.{_≤_};
-ghost use lib.ListN.{length, drop};
-ghost use Rattle.script.specs.Script.{andOn, numbersOn, is, commandOf, meaning};
-ghost use Rattle.script.specs.ContractsOfSteps.{rest};
+ghost use Rattle.script.specs.Script.{is, hexBytes, hexCommand, fileCommand, numbered, commands, chosen, spoken, meaning};
 
-// What stands between words.
-const SPACE: u8 = b' ';
-
-// What a line asks for; `Bytes` asks for the buffer itself.
-pub enum Command {
+// A call on the lent bytes.
+pub enum Call {
     // Code and slots.
     Make(u64, u64),
     // Slot, step and reading.
@@ -25,48 +23,23 @@ pub enum Command {
     Clear(u64),
     Read(u64),
     Survey,
+    // The lent bytes themselves.
     Bytes,
+}
+
+// What a line asks for.
+pub enum Command {
+    // An empty line, or a comment.
+    Nothing,
+    // So many zero bytes.
+    Buffer(u64),
+    // The bytes that the argument is in hexadecimal.
+    Hex,
+    // The file that the argument names.
+    Open,
+    Save,
+    Call(Call),
     Unreadable,
-}
-
-// Up to three numbers.
-pub(crate) enum Numbers {
-    None,
-    One(u64),
-    Two(u64, u64),
-    Three(u64, u64, u64),
-    Unreadable,
-}
-
-// Numbers with one more.
-fn with(numbers: Numbers, n: u64) -> Numbers
-    ensures { λ r. ⌜ r ≡ andOn numbers (Number.Is n) ⌝ }
-{
-    match numbers {
-        Numbers::None => Numbers::One(n),
-        Numbers::One(a) => Numbers::Two(a, n),
-        Numbers::Two(a, b) => Numbers::Three(a, b, n),
-        Numbers::Three(_, _, _) => Numbers::Unreadable,
-        Numbers::Unreadable => Numbers::Unreadable,
-    }
-}
-
-// The numbers in a line from `from` on, a space before each.
-fn parse_numbers(line: &[u8], from: usize) -> Numbers
-    requires { ⌜ from ≤ length (now line) ⌝ }
-    ensures { λ r. ⌜ r ≡ numbersOn Numbers.None (rest (drop from (now (line .entry)))) ⌝ }
-{
-    let mut all = Numbers::None;
-    let mut at = from;
-    while at < line.len() {
-        let end = find(line, at + 1, SPACE);
-        let Number::Is(n) = parse_number(&line[at + 1..end]) else {
-            return Numbers::Unreadable;
-        };
-        all = with(all, n);
-        at = end;
-    }
-    all
 }
 
 // Whether a name is this word.
@@ -76,61 +49,64 @@ fn says(name: &[u8], word: &[u8]) -> bool
     same(name, word)
 }
 
-// The calls without numbers.
+// The commands without numbers.
 fn with_none(name: &[u8]) -> Command
-    ensures { λ r. ⌜ r ≡ commandOf (now (name .entry)) Numbers.None ⌝ }
+    ensures { λ r. ⌜ r ≡ chosen (now (name .entry)) (numbered Numbers.None) ⌝ }
 {
     if says(name, b"survey") {
-        return Command::Survey;
+        return Command::Call(Call::Survey);
     }
     if says(name, b"bytes") {
-        return Command::Bytes;
+        return Command::Call(Call::Bytes);
     }
     Command::Unreadable
 }
 
-// The calls with one number.
-fn with_one(name: &[u8], slot: u64) -> Command
-    ensures { λ r. ⌜ r ≡ commandOf (now (name .entry)) (Numbers.One slot) ⌝ }
+// The commands with one number.
+fn with_one(name: &[u8], a: u64) -> Command
+    ensures { λ r. ⌜ r ≡ chosen (now (name .entry)) (numbered (Numbers.One a)) ⌝ }
 {
-    if says(name, b"read") {
-        return Command::Read(slot);
+    if says(name, b"buffer") {
+        return Command::Buffer(a);
     }
     if says(name, b"clear") {
-        return Command::Clear(slot);
+        return Command::Call(Call::Clear(a));
+    }
+    if says(name, b"read") {
+        return Command::Call(Call::Read(a));
     }
     Command::Unreadable
 }
 
-// The calls with two numbers.
+// The commands with two numbers.
 fn with_two(name: &[u8], a: u64, b: u64) -> Command
-    ensures { λ r. ⌜ r ≡ commandOf (now (name .entry)) (Numbers.Two a b) ⌝ }
+    ensures { λ r. ⌜ r ≡ chosen (now (name .entry)) (numbered (Numbers.Two a b)) ⌝ }
 {
     if says(name, b"make") {
-        return Command::Make(a, b);
+        return Command::Call(Call::Make(a, b));
     }
     if says(name, b"flip") {
-        return Command::Flip(a, b);
+        return Command::Call(Call::Flip(a, b));
     }
     if says(name, b"mark") {
-        return Command::Mark(a, b);
+        return Command::Call(Call::Mark(a, b));
     }
     Command::Unreadable
 }
 
-// The call with three numbers.
+// The command with three numbers.
 fn with_three(name: &[u8], a: u64, b: u64, c: u64) -> Command
-    ensures { λ r. ⌜ r ≡ commandOf (now (name .entry)) (Numbers.Three a b c) ⌝ }
+    ensures { λ r. ⌜ r ≡ chosen (now (name .entry)) (numbered (Numbers.Three a b c)) ⌝ }
 {
     if says(name, b"put") {
-        return Command::Put(a, b, c);
+        return Command::Call(Call::Put(a, b, c));
     }
     Command::Unreadable
 }
 
-// The call of this name that has as many numbers.
-fn named(name: &[u8], all: Numbers) -> Command
-    ensures { λ r. ⌜ r ≡ commandOf (now (name .entry)) all ⌝ }
+// The command of this name that has as many numbers.
+fn with_numbers(name: &[u8], all: Numbers) -> Command
+    ensures { λ r. ⌜ r ≡ chosen (now (name .entry)) (numbered all) ⌝ }
 {
     match all {
         Numbers::None => with_none(name),
@@ -141,11 +117,66 @@ fn named(name: &[u8], all: Numbers) -> Command
     }
 }
 
-// The call that a line is: a name and numbers, a space between.
+// The command whose argument is bytes in hexadecimal: at least one.
+fn with_pairs(argument: &[u8]) -> Command
+    ensures { λ r. ⌜ r ≡ hexCommand (hexBytes (now (argument .entry))) ⌝ }
+{
+    let Pairs::Bytes(n) = count_pairs(argument) else {
+        return Command::Unreadable;
+    };
+    if n == 0 {
+        return Command::Unreadable;
+    }
+    Command::Hex
+}
+
+// A command whose argument is a file's name.
+fn with_file(argument: &[u8], command: Command) -> Command
+    ensures { λ r. ⌜ r ≡ fileCommand command (now (argument .entry)) ⌝ }
+{
+    if argument.len() == 0 {
+        return Command::Unreadable;
+    }
+    command
+}
+
+// The command of this name with this argument.
+fn named(name: &[u8], argument: &[u8]) -> Command
+    ensures { λ r. ⌜ r ≡ chosen (now (name .entry)) (commands (now (argument .entry))) ⌝ }
+{
+    if says(name, b"hex") {
+        return with_pairs(argument);
+    }
+    if says(name, b"open") {
+        return with_file(argument, Command::Open);
+    }
+    if says(name, b"save") {
+        return with_file(argument, Command::Save);
+    }
+    with_numbers(name, parse_numbers(argument))
+}
+
+// What a line without blanks at its ends asks for: `#` begins a comment.
+fn parse_bare(text: &[u8]) -> Command
+    ensures { λ r. ⌜ r ≡ spoken (now (text .entry)) ⌝ }
+{
+    if text.len() == 0 {
+        return Command::Nothing;
+    }
+    if text[0] == b'#' {
+        return Command::Nothing;
+    }
+    let end = word_end(text, 0);
+    let from = skip_blanks(text, end);
+    named(&text[..end], &text[from..])
+}
+
+// What a line asks for.
 pub fn parse_line(line: &[u8]) -> Command
     ensures { λ r. ⌜ r ≡ meaning (now (line .entry)) ⌝ }
 {
-    let end = find(line, 0, SPACE);
-    let all = parse_numbers(line, end);
-    named(&line[..end], all)
+    let part = bare(line);
+    let from = part.from;
+    let to = part.to;
+    parse_bare(&line[from..to])
 }

@@ -1,6 +1,5 @@
--- The claims about symbols and columns (document 01, 'Columns and their values' and 'The four codes'). Each is one record, and one theorem
--- of the same name in proofs/Claims.antt. They speak of the definitions, and so, by the contracts, of the functions. The layers above
--- cite these claims and the contracts.
+-- The claims about symbols and columns. Each is one record, and one theorem of the same name in proofs/Claims.antt. They speak of the definitions,
+-- and so, by the contracts, of the functions. The layers above cite these claims and the contracts.
 use mathlib.Core.Path.{_≡_}
 use mathlib.Core.Bool.{Bool, true, false, not, _||_, Bool·beq}
 use Prim.Native.Nat.{ℕ, _+_, _*_, _%_, _≤_, _<_}

@@ -1,4 +1,4 @@
--- A column of four bits: its value, parity, top bit and weight (document 01, 'Columns and their values'; source document 000).
+-- A column, its value, parity, top bit and weight: 'A word is m columns of four bits, top bit first'.
 use mathlib.Core.Bool.{Bool, true, false, cond, _&&_, Bool·beq}
 use Prim.Native.Nat.{ℕ, zero, suc, _+_, _*_}
 use lib.Dec.{eqb}

@@ -1,4 +1,4 @@
--- The four symbols, their sum and their product (document 01, 'Columns and their values'; source document 003).
+-- The four symbols, their sum and their product.
 use mathlib.Core.Bool.{Bool, true, false, not}
 use Prim.Native.Nat.{ℕ, _/_, _%_, _^_}
 use lib.Dec.{eqb}

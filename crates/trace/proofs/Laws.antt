@@ -1,4 +1,4 @@
--- What the layers above may cite beside the claims: lists of calls, one call at a time; reads and surveys in the paper's values; a slot's
+-- What the layers above may cite beside the claims: lists of calls, one call at a time; reads and surveys in the scope's values; a slot's
 -- status; what a survey counts. Lists of calls go as their definition says, which stays shut there.
 use mathlib.Core.Path.{_≡_, refl}
 use mathlib.Core.List.{List, [], _∷_}

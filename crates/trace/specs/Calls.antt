@@ -1,4 +1,5 @@
--- Making and the calls of a list (document 01, 'The trace'), what a call leaves, and runs of lists of calls.
+-- Making, the calls of a list, what a call leaves, and runs of lists: 'any list of puts, flips, marks, clears, surveys and reads, refused ones
+-- included, on a freshly made trace'.
 use mathlib.Core.List.{List, [], _∷_}
 use Prim.Native.Nat.{ℕ}
 use Rattle.codes.specs.Answer.{Answer, accepted, refused}
@@ -20,7 +21,7 @@ pub data Call : Type 0 where
   read : ℕ → Call
   survey : Call
 
--- a call's answer in the paper's numbers, and the state that it leaves: a buffer's bytes, or a plain trace
+-- a call's answer in the scope's numbers, and the state that it leaves: a buffer's bytes, or a plain trace
 pub record After (S : Type 0) : Type 0 where
   pub answer : Answer (List ℕ)
   pub state : S

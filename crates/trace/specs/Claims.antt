@@ -1,4 +1,5 @@
--- What is claimed of a trace, in the words of the demands and of document 01. Each claim is a theorem of the same name, in lower case, in proofs/.
+-- What is claimed of a trace, in the words of the demands and of the scope, which docs/CLAIMS.md has in full. Each claim is a theorem of the same
+-- name, in lower case, in proofs/.
 use mathlib.Core.Path.{_≡_}
 use mathlib.Core.Bool.{true}
 use mathlib.Core.Logic.{_⊎_, _↔_}
@@ -30,7 +31,7 @@ use Rattle.trace.specs.Plain.{Slot, Plain, projectionOf, slotOf, bytes, 
 
 -- ---- demand 1
 
--- the numbers that document 01's table gives a call, and a making, in the order in which they are tried
+-- the numbers that the scope's table of refusals gives a call, and a making, in the order in which they are tried
 abbrev pub numbersOf : Call → List ℕ
 numbersOf (put slot step reading) = 7 ∷ 8 ∷ 9 ∷ 13 ∷ []
 numbersOf (flip slot position) = 7 ∷ 8 ∷ 9 ∷ 10 ∷ 11 ∷ 12 ∷ []
@@ -42,13 +43,13 @@ numbersOf survey = 7 ∷ 8 ∷ []
 abbrev pub makingNumbers : List ℕ
 makingNumbers = 1 ∷ 6 ∷ 7 ∷ []
 
--- 'Unfit input gets one of the thirteen refusal numbers of document 01, returns nothing else, and changes no lent byte': an answer by a table
+-- 'Unfit input gets one of the thirteen refusal numbers of [the scope], returns nothing else, and changes no lent byte': an answer by a table
 -- with these numbers, in this order, and the bytes as they were where it is a refusal
 pub record Harmless (order : List ℕ) (rows : List Row) (b : List ℕ) (r : After (List ℕ)) : Type 0 where
   pub answer : ByTable order rows (r .answer)
   pub unchanged : (n : ℕ) → r .answer ≡ refused n → r .state ≡ b
 
--- when each row of the trace calls is met, in the words of document 01's table
+-- when each row of the trace calls is met, in the words of the scope's table
 pub record TraceRowsMean : Type 0 where
   -- 6: 'N not 1 to 4,000'
   pub wrong-count : (n : ℕ) → (wrongCount n .met ≡ true ↔ ((1 ≤ n) × (n ≤ 4000) → ⊥))
@@ -186,12 +187,12 @@ pub record Demand3ShutsOut : Type 0 where
   pub stores-nothing : (machine : Machine) → StoresNothing machine → Demanded3 machine → ⊥
   pub only-says-yes : (machine : Machine) → OnlySaysYes machine → Demanded3 machine → ⊥
 
--- a read gives, in the paper's values, what the named slot alone gives, whatever the buffer holds: so what is claimed of a read is claimed of
+-- a read gives, in the scope's values, what the named slot alone gives, whatever the buffer holds: so what is claimed of a read is claimed of
 -- what survey and listing take from a slot
 abbrev pub ReadsAlone : Type 0
 ReadsAlone = (b : List ℕ) (slot : ℕ) → onBytes (read slot) b .answer ≡ mapAnswer readingValues (aloneIn b slot)
 
--- the survey call gives, in the paper's values, what the slots' reads count: so what is claimed of the call is claimed of the function `survey`
+-- the survey call gives, in the scope's values, what the slots' reads count: so what is claimed of the call is claimed of the function `survey`
 abbrev pub SurveyGives : Type 0
 SurveyGives = (b : List ℕ) → onBytes survey b .answer ≡ mapAnswer surveyValues (surveyIn b)
 

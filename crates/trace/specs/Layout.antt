@@ -1,4 +1,4 @@
--- The layout of a trace (document 01, 'The trace'): 'A lent buffer holds free bytes, then N slots, then a trailer of 8 bytes that ends it'.
+-- The layout of a trace: 'A lent buffer holds free bytes, then N slots, then a trailer of 8 bytes that ends it'.
 -- Every function here answers for any list of bytes: past the end stands nothing, and a number of no bytes is 0.
 use mathlib.Core.List.{List, [], _∷_, _++_}
 use Prim.Native.Nat.{ℕ, zero, suc, _+_, _-_, _*_, _/_, _%_}
@@ -55,7 +55,7 @@ neededFor n = distanceOf n + trailerSize
 
 -- ---- the trailer
 
--- 'distance (4 bytes, high byte first, 11·N), N (2 bytes, high first, 1 to 4,000), code, edition 1'
+-- 'distance back from the trailer to slot 0 (4 bytes, high byte first, 11·N), N (2 bytes, high first, 1 to 4,000), code, edition 1'
 unfoldable pub trailer : ℕ → ℕ → List ℕ
 trailer code n = bytesOf 4 (distanceOf n) ++ (bytesOf 2 n ++ (bytesOf 1 code ++ bytesOf 1 1))
 

@@ -6,7 +6,7 @@ pub mod Lists
 pub mod Calls
 -- free bytes, slots, trailer: sizes and places
 pub mod Layout
--- the paper's number and values for each case of an answer
+-- the scope's number and values for each case of an answer
 pub mod Answers
 -- what a call sees of a trace, what a read gives of a slot, what a change makes of it
 pub mod View

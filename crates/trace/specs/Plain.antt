@@ -1,5 +1,5 @@
--- The plain trace (document 01, 'The trace'), an abstract state that knows no bytes: 'fed the making with its numbers and the buffer it found,
--- then the calls with their numbers, and none of their answers'. A set of positions is a word whose ones are those positions.
+-- 'The plain trace, for demand 3, is fed the making with its numbers and the buffer it found, then the calls with their numbers, and none of their
+-- answers.' It is an abstract state that knows no bytes. A set of positions is a word whose ones are those positions.
 use mathlib.Core.List.{List, _++_, map}
 use Prim.Native.Nat.{ℕ}
 use lib.ListN.{length, getD, set, replicate}

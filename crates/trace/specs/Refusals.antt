@@ -1,5 +1,5 @@
--- The rows of document 01's table 'Refusals by what comes back' that trace calls have. Each says when it is met; refusal 1 is the codes'
--- own row. The calls' tables stand in 'Rules'.
+-- The rows of the scope's table of refusals that trace calls have, each under the table's words for when it is met. Refusal 1 is the codes' own
+-- row. The calls' tables stand in 'Rules'.
 use mathlib.Core.Bool.{Bool, true, false, not, _&&_, _||_}
 use Prim.Native.Nat.{ℕ, _^_}
 use lib.Dec.{leb, ltb, eqb}

@@ -1,5 +1,5 @@
--- What each trace call answers, and the bytes that it leaves, whatever the buffer holds (document 01, 'The trace' and 'Refusals by what
--- comes back').
+-- What each trace call answers, and the bytes that it leaves, whatever the buffer holds: 'The smallest number that applies is returned, alone, but
+-- 5 on a read is tried only after all others pass. No lent byte changes.'
 use mathlib.Core.Bool.{cond}
 use mathlib.Core.List.{List, [], _∷_, _++_, map}
 use Prim.Native.Nat.{ℕ}

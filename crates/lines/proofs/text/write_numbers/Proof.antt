@@ -1,14 +1,12 @@
 -- `lines::text::write_numbers` meets its contract. At the loop's head the first i numbers are written, in at most 21 bytes each.
-use mathlib.Core.Path.{_≡_, refl, sym, _∙_}
+use mathlib.Core.Path.{_≡_, refl, _∙_}
 use Prim.Native.Nat.{_+_, _-_, _*_, _≤_}
 use native.Mathlib.Omega.{arith}
 use lib.ListN.{length, take, getD, length-set}
-use lib.Seq.{take-length}
-use Rattle.lines.specs.Text.{spaced}
+use Rattle.lines.specs.Text.{each, afterSpace, spaced}
 use Rattle.lines.specs.ContractsOfSteps.{Written}
 use Rattle.lines.proofs.Decimals.{decimal-short}
-use Rattle.lines.proofs.Texts.{written-none, written-then, written-byte, written-as, take-more}
-use Rattle.lines.proofs.Lines.{spaced-more}
+use Rattle.lines.proofs.Texts.{written-none, written-then, written-byte, written-more, written-each}
 use Rattle.lines.proofs.text.write_numbers.Statement.{statement}
 use Rattle.lines.proofs.text.write_numbers.Tie as tie
 
@@ -20,7 +18,7 @@ abbrev μ-loop : tie.MeasureT-loop
 μ-loop out₀ at numbers end₀ i₀ out end i = length numbers - i
 
 loop-holds : tie.Need-loop-holds Inv-loop μ-loop
-unfolding spaced
+unfolding each
 loop-holds c =
     (omega arith, omega arith, refl, written-none (c .before .before .args .out .now) (c .before .before .args .at))
 
@@ -55,13 +53,12 @@ loop-again c =
     let head = c .before .before .before .before .before .before in
     let l = head .loop in
     let numbers = head .before .before .before .args .numbers .now in
-    let short = decimal-short (getD numbers (l .i) 0) (c .before .before .before .shared-slice-known2 .given (l .i) .fits) in (
+    let short = decimal-short (getD numbers (l .i) 0) (c .before .before .before .shared-slice-known2 .given (l .i) .fits) in
+    let space = written-byte 32 (written-none (l .out) (l .end)) (omega arith) in (
       omega arith,
       omega (arith, w .ensures .ends),
       w .kept .0 ∙ simp length-set (l .inv .2),
-      written-as
-          (sym (rw (take-more numbers (l .i) (omega arith)) (spaced-more (take (l .i) numbers) (getD numbers (l .i) 0))))
-          (written-then (written-byte 32 (l .inv .3) (omega arith)) (w .ensures)),
+      written-more afterSpace numbers (l .i) (l .inv .3) (omega arith) (written-then space (w .ensures)),
     )
 
 same-length : tie.Need-same-length Inv-loop μ-loop
@@ -72,7 +69,7 @@ returns c =
     let l = c .before .loop in
     let numbers = c .before .before .before .before .args .numbers .now in
     let all : l .i ≡ length numbers = omega arith in
-    (written-as (rw (all, take-length numbers)) (l .inv .3), omega arith)
+    (written-each afterSpace numbers (l .i) (l .inv .3) all, omega arith)
 
 pub write-numbers-spec : {M : Type 1} → statement M
 write-numbers-spec =

@@ -1,33 +1,36 @@
--- `script::line::parse_line` meets its contract: the first word, and the numbers after it.
-use mathlib.Core.Path.{sym}
-use native.Mathlib.Omega.{arith}
-use lib.Seq.{length-take-le}
-use Rattle.script.proofs.Splitting.{meaning-first}
+-- `script::line::parse_line` meets its contract: what the bare line means.
+use mathlib.Core.Path.{_∙_, ap}
+use Rattle.script.specs.Script.{spoken, meaning}
 use borrow.Author.Needs.{needs}
 use Rattle.script.proofs.line.parse_line.Statement.{statement}
 use Rattle.script.proofs.line.parse_line.Tie as tie
 
-find-requires : tie.Need-find-requires
-find-requires c κs = search needs
+bare-requires : tie.Need-bare-requires
+bare-requires c κs = search needs
 
-parse-numbers-requires : tie.Need-parse-numbers-requires
-parse-numbers-requires c κs = c .find .ensures .1 (omega arith) .1
+sub-parse-bare : tie.Need-sub-parse-bare
+sub-parse-bare c = search needs
 
-slice-aggregate-named : tie.Need-slice-aggregate-named
-slice-aggregate-named c =
-    let f = c .before .before .find in
-    sym (length-take-le (f .result) (c .before .before .before .before .args .line .now) (f .ensures .1 (omega arith) .1))
+part-parse-bare-start : tie.Need-part-parse-bare-start
+part-parse-bare-start c = search needs
 
-named-requires : tie.Need-named-requires
-named-requires c κs = search needs
+part-parse-bare-end : tie.Need-part-parse-bare-end
+part-parse-bare-end c = search needs
+
+parse-bare-requires : tie.Need-parse-bare-requires
+parse-bare-requires c κs = search needs
 
 returns : tie.Need-returns
-returns c =
-    let line = c .before .before .before .before .before .args .line .now in
-    let f = c .before .before .before .find in
-    rw (c .named .ensures, c .before .before .parse-numbers .ensures) (meaning-first line (f .result) (omega (arith, f .ensures .0)))
+unfolding meaning
+returns c = c .parse-bare .ensures ∙ ap spoken (c .before .before .bare .ensures .are)
 
 pub parse-line-spec : {M : Type 1} → statement M
 parse-line-spec =
     tie.close
-    (tie.spec find-requires parse-numbers-requires slice-aggregate-named named-requires returns)
+    (tie.spec
+    bare-requires
+    sub-parse-bare
+    part-parse-bare-start
+    part-parse-bare-end
+    parse-bare-requires
+    returns)

@@ -1,5 +1,5 @@
--- `script::line::with_none` meets its contract: the calls with no number.
-use Rattle.script.specs.Script.{commandOf}
+-- `script::line::with_none` meets its contract: the commands with no number.
+use Rattle.script.specs.Script.{chosen}
 use borrow.Author.Needs.{needs}
 use Rattle.script.proofs.line.with_none.Statement.{statement}
 use Rattle.script.proofs.line.with_none.Tie as tie
@@ -11,7 +11,7 @@ says-requires : tie.Need-says-requires
 says-requires c κs = search needs
 
 returns : tie.Need-returns
-unfolding commandOf
+unfolding chosen
 returns c = simp (← c .before .says .ensures, c .if1 .taken)
 
 slice-aggregate-says-2 : tie.Need-slice-aggregate-says-2
@@ -21,13 +21,13 @@ says-requires-2 : tie.Need-says-requires-2
 says-requires-2 c κs = search needs
 
 returns-2 : tie.Need-returns-2
-unfolding commandOf
+unfolding chosen
 returns-2 c =
     let one = c .before .before .before in
     simp (← c .before .says2 .ensures, c .if2 .taken, ← one .before .says .ensures, one .if1 .left)
 
 returns-3 : tie.Need-returns-3
-unfolding commandOf
+unfolding chosen
 returns-3 c =
     let one = c .before .before .before in
     simp (← c .before .says2 .ensures, c .if2 .left, ← one .before .says .ensures, one .if1 .left)

@@ -1,5 +1,5 @@
--- `script::line::with_three` meets its contract: the calls with three numbers.
-use Rattle.script.specs.Script.{commandOf}
+-- `script::line::with_three` meets its contract: the commands with three numbers.
+use Rattle.script.specs.Script.{chosen}
 use borrow.Author.Needs.{needs}
 use Rattle.script.proofs.line.with_three.Statement.{statement}
 use Rattle.script.proofs.line.with_three.Tie as tie
@@ -11,11 +11,11 @@ says-requires : tie.Need-says-requires
 says-requires c κs = search needs
 
 returns : tie.Need-returns
-unfolding commandOf
+unfolding chosen
 returns c = simp (← c .before .says .ensures, c .if1 .taken)
 
 returns-2 : tie.Need-returns-2
-unfolding commandOf
+unfolding chosen
 returns-2 c = simp (← c .before .says .ensures, c .if1 .left)
 
 pub with-three-spec : {M : Type 1} → statement M

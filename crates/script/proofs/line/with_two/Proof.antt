@@ -1,5 +1,5 @@
--- `script::line::with_two` meets its contract: the calls with two numbers.
-use Rattle.script.specs.Script.{commandOf}
+-- `script::line::with_two` meets its contract: the commands with two numbers.
+use Rattle.script.specs.Script.{chosen}
 use borrow.Author.Needs.{needs}
 use Rattle.script.proofs.line.with_two.Statement.{statement}
 use Rattle.script.proofs.line.with_two.Tie as tie
@@ -11,7 +11,7 @@ says-requires : tie.Need-says-requires
 says-requires c κs = search needs
 
 returns : tie.Need-returns
-unfolding commandOf
+unfolding chosen
 returns c = simp (← c .before .says .ensures, c .if1 .taken)
 
 slice-aggregate-says-2 : tie.Need-slice-aggregate-says-2
@@ -21,7 +21,7 @@ says-requires-2 : tie.Need-says-requires-2
 says-requires-2 c κs = search needs
 
 returns-2 : tie.Need-returns-2
-unfolding commandOf
+unfolding chosen
 returns-2 c =
     let one = c .before .before .before in
     simp (← c .before .says2 .ensures, c .if2 .taken, ← one .before .says .ensures, one .if1 .left)
@@ -33,14 +33,14 @@ says-requires-3 : tie.Need-says-requires-3
 says-requires-3 c κs = search needs
 
 returns-3 : tie.Need-returns-3
-unfolding commandOf
+unfolding chosen
 returns-3 c =
     let two = c .before .before .before in
     let one = two .before .before .before in
     simp (← c .before .says3 .ensures, c .if3 .taken, ← two .before .says2 .ensures, two .if2 .left, ← one .before .says .ensures, one .if1 .left)
 
 returns-4 : tie.Need-returns-4
-unfolding commandOf
+unfolding chosen
 returns-4 c =
     let two = c .before .before .before in
     let one = two .before .before .before in

@@ -1,0 +1,44 @@
+-- The claims about lines and calls: those that are stated here are computed by the definitions.
+use mathlib.Core.Path.{refl}
+use Rattle.script.specs.Script.{isBlank, skipBlanks, trimEnd, withoutReturn, bare, word, behind, pieces, words, digitOn, numbersOn}
+use Rattle.script.specs.Script.{hexValue, hexBytes, is, chosen, spoken, meaning, argument}
+use Rattle.script.specs.Lending.{lineLends, lendIn}
+use Rattle.script.specs.Claims.{LinesMean, LinesLend}
+pub use Rattle.script.proofs.Holds.{lines-held}
+pub use Rattle.script.proofs.Calls.{calls-answer}
+
+pub lines-mean : LinesMean
+unfolding isBlank skipBlanks trimEnd withoutReturn bare word behind pieces words digitOn numbersOn hexValue hexBytes is chosen spoken meaning
+lines-mean =
+    record {
+      empty = refl;
+      blank = refl;
+      comment = refl;
+      make = refl;
+      put = refl;
+      flip = refl;
+      mark = refl;
+      clear = refl;
+      read = refl;
+      survey = refl;
+      bytes = refl;
+      return = refl;
+      size = refl;
+      noSize = refl;
+      hex = refl;
+      noDigit = refl;
+      halfPair = refl;
+      opened = refl;
+      saved = refl;
+      noFile = refl;
+      below = refl;
+      above = refl;
+      fewer = refl;
+      more = refl;
+      largest = refl;
+      tooLarge = refl;
+    }
+
+pub lines-lend : LinesLend
+unfolding isBlank skipBlanks trimEnd withoutReturn bare word behind pieces words digitOn numbersOn hexValue hexBytes is chosen spoken meaning argument lineLends lendIn
+lines-lend = record { size = refl; pairs = refl; digits = refl; noDigits = refl; call = refl; name = refl; front = refl; fits = refl; tooMany = refl; nothing = refl }

@@ -1,0 +1,104 @@
+-- What is claimed of a script's lines and calls. Each claim is a theorem of the same name, in lower case, in proofs/Claims.
+use mathlib.Core.Path.{_≡_}
+use mathlib.Core.Bool.{true, false}
+use mathlib.Core.List.{List, [], _∷_, map}
+use mathlib.Core.Option.{none, some}
+use Prim.Native.Nat.{ℕ, _<_, _≤_}
+use Prim.Native.String.{String}
+use lib.ListN.{length, take, replicate}
+use Rattle.trace.specs.Claims.{exampleBytes}
+use Rattle.lines.specs.Claims.{exampleFile}
+use Rattle.script.specs.declared.line.Call.{Call}
+use Rattle.script.specs.declared.line.Command.{Command}
+use Rattle.script.specs.declared.lending.Lent.{Lent}
+use Rattle.script.specs.Held.{isWhole, Holding, holding, holdAll}
+use Rattle.script.specs.Script.{text, hexValue, meaning, argument}
+use Rattle.script.specs.Lending.{zeros, lineLends, lending, lendIn}
+use Rattle.script.specs.Answering.{Answered, answered}
+
+-- ---- lines
+
+-- lines as people type them, and what they mean
+pub record LinesMean : Type 0 where
+  pub empty : meaning [] ≡ Command.Nothing
+  pub blank : meaning (text " \t \r") ≡ Command.Nothing
+  pub comment : meaning (text "  # put 0 74 2385") ≡ Command.Nothing
+  pub make : meaning (text "make 1 4") ≡ Command.Call (Call.Make 1 4)
+  pub put : meaning (text "put 0 74 2385") ≡ Command.Call (Call.Put 0 74 2385)
+  pub flip : meaning (text "\tflip  0 \t 3 \r") ≡ Command.Call (Call.Flip 0 3)
+  pub mark : meaning (text "mark 0 35") ≡ Command.Call (Call.Mark 0 35)
+  pub clear : meaning (text "clear 2") ≡ Command.Call (Call.Clear 2)
+  pub read : meaning (text "read 0") ≡ Command.Call (Call.Read 0)
+  pub survey : meaning (text "survey") ≡ Command.Call Call.Survey
+  pub bytes : meaning (text "bytes") ≡ Command.Call Call.Bytes
+  pub return : meaning (text "read\r 0") ≡ Command.Unreadable
+  pub size : meaning (text "buffer 100000") ≡ Command.Buffer 100000
+  pub noSize : meaning (text "buffer 00FF") ≡ Command.Unreadable
+  pub hex : meaning (text "hex 00ff") ≡ Command.Hex
+  pub noDigit : meaning (text "hex @0") ≡ Command.Unreadable
+  pub halfPair : meaning (text "hex 0 0") ≡ Command.Unreadable
+  pub opened : meaning (text "open bed 3.trace ") ≡ Command.Open
+  pub saved : meaning (text "save bed 3.trace") ≡ Command.Save
+  pub noFile : meaning (text "save ") ≡ Command.Unreadable
+  pub below : meaning (text "read /") ≡ Command.Unreadable
+  pub above : meaning (text "read :") ≡ Command.Unreadable
+  pub fewer : meaning (text "put 0 74") ≡ Command.Unreadable
+  pub more : meaning (text "put 0 74 2385 1") ≡ Command.Unreadable
+  pub largest : meaning (text "read 18446744073709551615") ≡ Command.Call (Call.Read 18446744073709551615)
+  pub tooLarge : meaning (text "read 18446744073709551616") ≡ Command.Unreadable
+
+-- what they lend, which file they name, and what lent bytes make of a buffer
+pub record LinesLend : Type 0 where
+  pub size : lineLends (text "buffer 100000") ≡ some (zeros 100000)
+  pub pairs : lineLends (text "hex 00 fF\t2c ") ≡ some (0x00 ∷ 0xFF ∷ 0x2C ∷ [])
+  pub digits : lineLends (text "hex 09AFaf") ≡ some (0x09 ∷ 0xAF ∷ 0xAF ∷ [])
+  pub noDigits : map hexValue (text "/:@G`g") ≡ replicate 6 16
+  pub call : lineLends (text "read 0") ≡ none
+  pub name : argument (text " open  bed 3.trace \r") ≡ text "bed 3.trace"
+  pub front : lendIn (some (1 ∷ 2 ∷ [])) (7 ∷ 8 ∷ 9 ∷ []) ≡ lending (Lent.Bytes 2) (1 ∷ 2 ∷ 9 ∷ [])
+  pub fits : lendIn (some (1 ∷ 2 ∷ 3 ∷ [])) (7 ∷ 8 ∷ 9 ∷ []) ≡ lending (Lent.Bytes 3) (1 ∷ 2 ∷ 3 ∷ [])
+  pub tooMany : lendIn (some (1 ∷ 2 ∷ 3 ∷ 4 ∷ [])) (7 ∷ 8 ∷ 9 ∷ []) ≡ lending Lent.TooMany (7 ∷ 8 ∷ 9 ∷ [])
+  pub nothing : lendIn none (7 ∷ 8 ∷ 9 ∷ []) ≡ lending Lent.Nothing (7 ∷ 8 ∷ 9 ∷ [])
+
+-- ---- lines that are taken byte by byte
+
+-- as many bytes are held as a line has, they are said to be a whole line, and they are the line
+pub record IsHeld (line : List ℕ) (h : Holding) : Type 0 where
+  pub count : h .count ≡ length line
+  pub whole : isWhole (h .count) ≡ true
+  pub bytes : take (h .count) (h .buffer) ≡ line
+
+-- a line of at most 200,000 bytes is held as it is, in a buffer with room for as many; what is held of a longer one is said to be no whole line
+pub record LinesHeld : Type 0 where
+  pub held : (line buffer : List ℕ) → length buffer ≡ 200000 → length line ≤ 200000 → IsHeld line (holdAll line (holding buffer 0))
+  pub long : (line buffer : List ℕ) → 200000 < length line → isWhole (holdAll line (holding buffer 0) .count) ≡ false
+
+-- ---- calls
+
+-- a line, and the bytes afterwards
+abbrev pub says : String → List ℕ → Answered
+says line bytes = record { line = text line; bytes = bytes }
+
+-- a written slot whose word and marks are below 256, and a blank one
+abbrev pub slotWith : ℕ → ℕ → List ℕ
+slotWith word marks = 1 ∷ 0 ∷ 0 ∷ 0 ∷ 0 ∷ word ∷ 0 ∷ 0 ∷ 0 ∷ 0 ∷ marks ∷ []
+
+abbrev pub blankSlot : List ℕ
+blankSlot = replicate 11 0
+
+-- calls on a trace of one slot under code 2, byte for byte, where position 34 is the bit of value 2, and on the scope's example: each call's
+-- line, and the bytes that it leaves
+pub record CallsAnswer : Type 0 where
+  pub make : answered (Call.Make 2 1) (replicate 21 0xFF) ≡ says "ok\n" (exampleBytes blankSlot)
+  pub noRoom : answered (Call.Make 1 2) (replicate 21 0xFF) ≡ says "refused 7\n" (replicate 21 0xFF)
+  pub put : answered (Call.Put 0 74 2385) (exampleBytes blankSlot)
+      ≡ says "ok\n" (exampleBytes (1 ∷ 0x02 ∷ 0xE4 ∷ 0x87 ∷ 0x22 ∷ 0xDB ∷ replicate 5 0))
+  pub tooLarge : answered (Call.Put 0 2385 74) (exampleBytes blankSlot) ≡ says "refused 13\n" (exampleBytes blankSlot)
+  pub flip : answered (Call.Flip 0 34) (exampleBytes (slotWith 5 8)) ≡ says "ok\n" (exampleBytes (slotWith 7 8))
+  pub mark : answered (Call.Mark 0 34) (exampleBytes (slotWith 5 8)) ≡ says "ok\n" (exampleBytes (slotWith 5 10))
+  pub noSlot : answered (Call.Mark 34 0) (exampleBytes (slotWith 5 8)) ≡ says "refused 9\n" (exampleBytes (slotWith 5 8))
+  pub clear : answered (Call.Clear 0) (exampleBytes (slotWith 5 8)) ≡ says "ok\n" (exampleBytes blankSlot)
+  pub read : answered (Call.Read 0) exampleFile ≡ says "ok 74 2385 2 0\n" exampleFile
+  pub blank : answered (Call.Read 1) exampleFile ≡ says "refused 11\n" exampleFile
+  pub survey : answered Call.Survey exampleFile ≡ says "ok 1 1 1 1 0 2385 2385 2385 2385\n" exampleFile
+  pub bytes : answered Call.Bytes (0x00 ∷ 0x2C ∷ 0xE4 ∷ 0xFF ∷ []) ≡ says "002CE4FF\n" (0x00 ∷ 0x2C ∷ 0xE4 ∷ 0xFF ∷ [])

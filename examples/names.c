@@ -1,0 +1,213 @@
+/* Holds every name of mizbulett.h to what the calls do; MIZBULETT_VERSION alone shows in no call. Prints one line where all hold. */
+#include <inttypes.h>
+#include <stdio.h>
+#include <stdlib.h>
+
+#include "mizbulett.h"
+
+/* The bytes of a trace of most slots and one more, and more numbers than any call writes. */
+static uint8_t trace[MIZBULETT_SIZE(MIZBULETT_MAX_SLOTS + 1)];
+enum { ROOM = 16 };
+static uint64_t out[ROOM];
+
+/* What no call writes to `out`. */
+#define UNWRITTEN UINT64_MAX
+
+/* Ends the program with 1 where a number is not the expected one, and says in which line. */
+#define EXPECT(given, expected) expect(__LINE__, #given, given, expected)
+
+static void expect(int line, const char *expression, uint64_t given, uint64_t expected)
+{
+    if (given != expected) {
+        fprintf(stderr, "examples/names.c:%d: %s is %" PRIu64 ", not %" PRIu64 "\n", line, expression, given, expected);
+        exit(1);
+    }
+}
+
+/* Expects a call to be accepted, and to write as many numbers. */
+#define EXPECT_VALUES(call, values)       \
+    do {                                  \
+        erase();                          \
+        EXPECT(call, MIZBULETT_ACCEPTED); \
+        EXPECT(written(), values);        \
+    } while (0)
+
+static void erase(void)
+{
+    for (int place = 0; place < ROOM; place++) {
+        out[place] = UNWRITTEN;
+    }
+}
+
+/* How many numbers of `out` there are up to the last written one. */
+static uint64_t written(void)
+{
+    uint64_t values = ROOM;
+    while (values > 0 && out[values - 1] == UNWRITTEN) {
+        values--;
+    }
+    return values;
+}
+
+/* The codes, each with the codeword of the message whose highest bit alone is one: its last digit differs between O and E. */
+static const struct code {
+    uint64_t number, width, message_bits, steps, codeword;
+} codes[] = {
+    {MIZBULETT_CODE_36_O, 36, 19, 128, 0x777777778},
+    {MIZBULETT_CODE_36_E, 36, 19, 128, 0x777777777},
+    {MIZBULETT_CODE_40_O, 40, 22, 1024, 0x7777777778},
+    {MIZBULETT_CODE_40_E, 40, 22, 1024, 0x7777777777},
+};
+
+/* The calls on words: each takes the highest bit of a message, a word or marks, and not the bit above it. */
+static void check_words(struct code code)
+{
+    const uint64_t message = UINT64_C(1) << (code.message_bits - 1), top_bit = UINT64_C(1) << (code.width - 1);
+
+    EXPECT_VALUES(mizbulett_encode(code.number, message, out), MIZBULETT_ENCODE_VALUES);
+    EXPECT(out[MIZBULETT_ENCODE_WORD], code.codeword);
+    EXPECT(mizbulett_encode(code.number, 2 * message, out), MIZBULETT_MESSAGE_TOO_LARGE);
+
+    EXPECT_VALUES(mizbulett_decode(code.number, code.codeword, out), MIZBULETT_DECODE_VALUES);
+    EXPECT(out[MIZBULETT_DECODE_MESSAGE], message);
+    EXPECT(mizbulett_decode(code.number, top_bit, out), MIZBULETT_NOT_A_CODEWORD);
+    EXPECT(mizbulett_decode(code.number, 2 * top_bit, out), MIZBULETT_WORD_TOO_WIDE);
+
+    /* The highest bit wrong, and the lowest three marked. */
+    EXPECT_VALUES(mizbulett_correct(code.number, code.codeword ^ top_bit, 7, out), MIZBULETT_CORRECT_VALUES);
+    EXPECT(out[MIZBULETT_CORRECT_CODEWORD], code.codeword);
+    EXPECT(out[MIZBULETT_CORRECT_MESSAGE], message);
+    EXPECT(out[MIZBULETT_CORRECT_WRONG], 1);
+    EXPECT(out[MIZBULETT_CORRECT_MARKS], 3);
+    EXPECT(mizbulett_correct(code.number, code.codeword, top_bit, out), MIZBULETT_ACCEPTED);
+    EXPECT(mizbulett_correct(code.number, code.codeword, 2 * top_bit, out), MIZBULETT_WORD_TOO_WIDE);
+    EXPECT(mizbulett_correct(code.number, 2 * top_bit, 0, out), MIZBULETT_WORD_TOO_WIDE);
+    EXPECT(mizbulett_correct(code.number, code.codeword ^ 15, 0, out), MIZBULETT_NONE_NEAR);
+}
+
+/* A trace of one slot: the last step, the highest reading and the last position are taken, and not the next ones. */
+static void check_slot(struct code code)
+{
+    const size_t len = MIZBULETT_SIZE(1);
+
+    EXPECT(mizbulett_make(trace, len, code.number, 1), MIZBULETT_ACCEPTED);
+    EXPECT(mizbulett_put(trace, len, 0, code.steps - 1, MIZBULETT_OVER), MIZBULETT_ACCEPTED);
+    EXPECT(mizbulett_put(trace, len, 0, code.steps, 0), MIZBULETT_TOO_LARGE);
+    EXPECT(mizbulett_put(trace, len, 0, 0, MIZBULETT_OVER + 1), MIZBULETT_TOO_LARGE);
+    EXPECT(mizbulett_flip(trace, len, 0, code.width - 1), MIZBULETT_ACCEPTED);
+    EXPECT(mizbulett_flip(trace, len, 0, code.width), MIZBULETT_NO_POSITION);
+    EXPECT(mizbulett_mark(trace, len, 0, 0), MIZBULETT_ACCEPTED);
+    EXPECT(mizbulett_mark(trace, len, 0, 1), MIZBULETT_ACCEPTED);
+
+    EXPECT_VALUES(mizbulett_read(trace, len, 0, out), MIZBULETT_READ_VALUES);
+    EXPECT(out[MIZBULETT_READ_STEP], code.steps - 1);
+    EXPECT(out[MIZBULETT_READ_READING], MIZBULETT_OVER);
+    EXPECT(out[MIZBULETT_READ_WRONG], 1);
+    EXPECT(out[MIZBULETT_READ_MARKS], 2);
+}
+
+/* A number that is no code. */
+static void check_unknown(uint64_t number)
+{
+    EXPECT(mizbulett_encode(number, 0, out), MIZBULETT_UNKNOWN_CODE);
+    EXPECT(mizbulett_decode(number, 0, out), MIZBULETT_UNKNOWN_CODE);
+    EXPECT(mizbulett_correct(number, 0, 0, out), MIZBULETT_UNKNOWN_CODE);
+    EXPECT(mizbulett_make(trace, sizeof trace, number, 1), MIZBULETT_UNKNOWN_CODE);
+}
+
+/* For each number of slots its size is enough, and one byte less is not. */
+static void check_sizes(void)
+{
+    for (uint64_t slots = 1; slots <= MIZBULETT_MAX_SLOTS; slots++) {
+        EXPECT(mizbulett_make(trace, MIZBULETT_SIZE(slots), MIZBULETT_CODE_36_O, slots), MIZBULETT_ACCEPTED);
+        EXPECT(mizbulett_make(trace, MIZBULETT_SIZE(slots) - 1, MIZBULETT_CODE_36_O, slots), MIZBULETT_BUFFER_SHORT);
+    }
+    EXPECT(mizbulett_make(trace, sizeof trace, MIZBULETT_CODE_36_O, 0), MIZBULETT_WRONG_COUNT);
+    EXPECT(mizbulett_make(trace, sizeof trace, MIZBULETT_CODE_36_O, MIZBULETT_MAX_SLOTS + 1), MIZBULETT_WRONG_COUNT);
+}
+
+/* Puts a reading and inverts four of its bits, one too many to mend. */
+static void lose(size_t len, uint64_t slot)
+{
+    EXPECT(mizbulett_put(trace, len, slot, 0, 0), MIZBULETT_ACCEPTED);
+    for (uint64_t position = 0; position < 4; position++) {
+        EXPECT(mizbulett_flip(trace, len, slot, position), MIZBULETT_ACCEPTED);
+    }
+}
+
+/* Makes the bytes of a slot none that any call writes: its first is neither 0 nor 1. */
+static void spoil(uint64_t slot)
+{
+    trace[MIZBULETT_SIZE(slot) - MIZBULETT_SIZE(0)] = 2;
+}
+
+/* What a read refuses: no trace, no slot, and a slot that is blank, lost or bad. */
+static void check_read(void)
+{
+    const size_t len = MIZBULETT_SIZE(1);
+    uint8_t zeros[MIZBULETT_SIZE(0)] = {0};
+
+    EXPECT(mizbulett_read(zeros, sizeof zeros - 1, 0, out), MIZBULETT_BUFFER_SHORT);
+    EXPECT(mizbulett_read(zeros, sizeof zeros, 0, out), MIZBULETT_TRAILER_UNFIT);
+    EXPECT(mizbulett_make(trace, len, MIZBULETT_CODE_36_O, 1), MIZBULETT_ACCEPTED);
+    EXPECT(mizbulett_read(trace, len, 1, out), MIZBULETT_NO_SLOT);
+    EXPECT(mizbulett_read(trace, len, 0, out), MIZBULETT_SLOT_BLANK);
+    lose(len, 0);
+    EXPECT(mizbulett_read(trace, len, 0, out), MIZBULETT_NONE_NEAR);
+    spoil(0);
+    EXPECT(mizbulett_read(trace, len, 0, out), MIZBULETT_SLOT_BAD);
+    EXPECT(mizbulett_clear(trace, len, 0), MIZBULETT_ACCEPTED);
+    EXPECT(mizbulett_read(trace, len, 0, out), MIZBULETT_SLOT_BLANK);
+}
+
+/* A survey whose ten numbers are all different, after one without a pressure. */
+static void check_survey(void)
+{
+    enum { BLANK = 2, READ = 3, OVER = 4, LOST = 5, BAD = 6, SLOTS = BLANK + READ + OVER + LOST + BAD };
+    static const uint64_t pressures[READ] = {10, 20, MIZBULETT_OVER - 1};
+    const size_t len = MIZBULETT_SIZE(SLOTS);
+    uint64_t slot = BLANK;
+
+    EXPECT(mizbulett_make(trace, len, MIZBULETT_CODE_36_O, SLOTS), MIZBULETT_ACCEPTED);
+    for (int over = 0; over < OVER; over++) {
+        EXPECT(mizbulett_put(trace, len, slot++, 0, MIZBULETT_OVER), MIZBULETT_ACCEPTED);
+    }
+    for (int lost = 0; lost < LOST; lost++) {
+        lose(len, slot++);
+    }
+    for (int bad = 0; bad < BAD; bad++) {
+        spoil(slot++);
+    }
+    EXPECT_VALUES(mizbulett_survey(trace, len, out), MIZBULETT_SURVEY_VALUES);
+    EXPECT(out[MIZBULETT_SURVEY_PRESENT], 0);
+
+    for (int read = 0; read < READ; read++) {
+        EXPECT(mizbulett_put(trace, len, slot++, 0, pressures[read]), MIZBULETT_ACCEPTED);
+    }
+    EXPECT_VALUES(mizbulett_survey(trace, len, out), MIZBULETT_SURVEY_VALUES);
+    EXPECT(out[MIZBULETT_SURVEY_BLANK], BLANK);
+    EXPECT(out[MIZBULETT_SURVEY_READ], READ);
+    EXPECT(out[MIZBULETT_SURVEY_OVER], OVER);
+    EXPECT(out[MIZBULETT_SURVEY_LOST], LOST);
+    EXPECT(out[MIZBULETT_SURVEY_BAD], BAD);
+    EXPECT(out[MIZBULETT_SURVEY_SUM], 4124);
+    EXPECT(out[MIZBULETT_SURVEY_PRESENT], 1);
+    EXPECT(out[MIZBULETT_SURVEY_SMALLEST], 10);
+    EXPECT(out[MIZBULETT_SURVEY_LARGEST], 4094);
+    EXPECT(out[MIZBULETT_SURVEY_MEAN], 1374);
+}
+
+int main(void)
+{
+    for (size_t i = 0; i < sizeof codes / sizeof codes[0]; i++) {
+        check_words(codes[i]);
+        check_slot(codes[i]);
+    }
+    check_unknown(0);
+    check_unknown(5);
+    check_sizes();
+    check_read();
+    check_survey();
+    printf("c names ok\n");
+    return 0;
+}

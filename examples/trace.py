@@ -1,0 +1,74 @@
+#!/usr/bin/env python3
+"""A trace of four slots: readings put, one damaged and marked, one damaged beyond mending; each read back, then a survey.
+
+The argument is the path of the shared object. include/mizbulett.h documents every call, number and value.
+"""
+import ctypes
+import sys
+
+CODE_36_O = 1
+OVER = 4095
+SLOTS = 4
+SIZE = 11 * SLOTS + 8
+
+NUMBER = ctypes.c_uint64
+BUFFER = [ctypes.POINTER(ctypes.c_uint8), ctypes.c_size_t]
+
+
+def declared(library, name, numbers, values=0):
+    """A trace call on a buffer's bytes: its answer is the number that it returns, and where it has values, these behind it.
+
+    ctypes takes every number modulo 2 to the power 64, so one that is not below that is refused here.
+    """
+    call = library[f"mizbulett_{name}"]
+    call.argtypes = BUFFER + [NUMBER] * numbers + [ctypes.POINTER(NUMBER)] * (values > 0)
+    call.restype = NUMBER
+
+    def on_bytes(trace, *arguments):
+        if not all(0 <= argument < 2**64 for argument in arguments):
+            raise ValueError(f"{name} {arguments}: a number is not of 64 bits")
+        buf = (ctypes.c_uint8 * len(trace)).from_buffer(trace)
+        if values == 0:
+            return call(buf, len(trace), *arguments)
+        out = (NUMBER * values)()
+        return call(buf, len(trace), *arguments, out), list(out)
+
+    return on_bytes
+
+
+def main():
+    library = ctypes.CDLL(sys.argv[1])
+    make, put = declared(library, "make", 2), declared(library, "put", 3)
+    flip, mark = declared(library, "flip", 2), declared(library, "mark", 2)
+    read, survey = declared(library, "read", 1, values=4), declared(library, "survey", 0, values=10)
+
+    trace = bytearray(SIZE)
+    answers = [make(trace, CODE_36_O, SLOTS), put(trace, 0, 74, 2385), put(trace, 1, 75, OVER), put(trace, 2, 76, 2401)]
+
+    # Slot 0: two wrong bits and three marks, one of them on a wrong bit: 2 * 1 + 3 is at most 7, and it is mended.
+    answers += [flip(trace, 0, position) for position in (3, 35)]
+    answers += [mark(trace, 0, position) for position in (35, 20, 21)]
+
+    # Slot 2: four wrong bits, one too many.
+    answers += [flip(trace, 2, position) for position in (0, 9, 18, 27)]
+    assert not any(answers), answers
+
+    # A step that the code has no room for: refused, and nothing changes.
+    print("put 3 128 0: refused", put(trace, 3, 128, 0))
+
+    for slot in range(SLOTS):
+        number, (step, reading, wrong, marks) = read(trace, slot)
+        if number != 0:
+            print(f"slot {slot}: refused {number}")
+        else:
+            note = ", no pressure" if reading == OVER else ""
+            print(f"slot {slot}: step {step} reading {reading}, {wrong} wrong, {marks} marked{note}")
+
+    number, (blank, pressures, over, lost, bad, _, present, smallest, largest, mean) = survey(trace)
+    assert number == 0, number
+    print(f"blank {blank} read {pressures} over {over} lost {lost} bad {bad}")
+    print(f"pressures from {smallest} to {largest}, mean {mean}" if present else "no pressure")
+
+
+if __name__ == "__main__":
+    main()
