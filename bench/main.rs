@@ -26,6 +26,18 @@ impl Random {
         self.next() % n
     }
 
+    /// A reading, or one time in three one at either end of the range or beyond it.
+    fn reading(&mut self) -> u64 {
+        match self.below(15) {
+            0 => 0,
+            1 => 1,
+            2 => 4094,
+            3 => 4095,
+            4 => 4096,
+            _ => self.below(4096),
+        }
+    }
+
     /// A word with `count` ones outside `taken`.
     fn bits(&mut self, width: u32, count: u64, taken: u64) -> u64 {
         let mut bits = 0u64;
@@ -101,7 +113,7 @@ fn random_call(random: &mut Random, code: &Code, slots: u64) -> Call {
     let slot = random.below(slots + 1);
     let position = random.below(code.width() as u64 + 1);
     match random.below(12) {
-        0 | 1 => Call::Put { slot, step: random.below((1 << (code.message_bits() - 12)) + 1), reading: random.below(4097) },
+        0 | 1 => Call::Put { slot, step: random.below((1 << (code.message_bits() - 12)) + 1), reading: random.reading() },
         2..=5 => Call::Flip { slot, position },
         6 | 7 => Call::Mark { slot, position },
         8 if random.below(3) == 0 => Call::Clear { slot },
@@ -118,7 +130,7 @@ fn run(b: &mut [u8], call: Call) -> Answer {
         Call::Clear { slot } => library::clear(b, slot).map(|_| vec![]),
         Call::Read { slot } => library::read(b, slot).map(|v| v.to_vec()),
         Call::Survey => library::survey(b).map(|s| {
-            let mut values = vec![s.blank, s.read, s.over, s.lost, s.bad, s.sum];
+            let mut values = vec![s.blank, s.read, s.over, s.under, s.lost, s.bad, s.sum];
             values.extend(s.pressures.map(|p| [p.smallest, p.largest, p.mean]).into_iter().flatten());
             values
         }),

@@ -160,10 +160,10 @@ static void check_read(void)
     EXPECT(mizbulett_read(trace, len, 0, out), MIZBULETT_SLOT_BLANK);
 }
 
-/* A survey whose ten numbers are all different, after one without a pressure. */
+/* A survey whose eleven numbers are all different, after one without a pressure. */
 static void check_survey(void)
 {
-    enum { BLANK = 2, READ = 3, OVER = 4, LOST = 5, BAD = 6, SLOTS = BLANK + READ + OVER + LOST + BAD };
+    enum { BLANK = 2, READ = 3, OVER = 4, UNDER = 5, LOST = 6, BAD = 7, SLOTS = BLANK + READ + OVER + UNDER + LOST + BAD };
     static const uint64_t pressures[READ] = {10, 20, MIZBULETT_OVER - 1};
     const size_t len = MIZBULETT_SIZE(SLOTS);
     uint64_t slot = BLANK;
@@ -171,6 +171,9 @@ static void check_survey(void)
     EXPECT(mizbulett_make(trace, len, MIZBULETT_CODE_36_O, SLOTS), MIZBULETT_ACCEPTED);
     for (int over = 0; over < OVER; over++) {
         EXPECT(mizbulett_put(trace, len, slot++, 0, MIZBULETT_OVER), MIZBULETT_ACCEPTED);
+    }
+    for (int under = 0; under < UNDER; under++) {
+        EXPECT(mizbulett_put(trace, len, slot++, 0, MIZBULETT_UNDER), MIZBULETT_ACCEPTED);
     }
     for (int lost = 0; lost < LOST; lost++) {
         lose(len, slot++);
@@ -188,6 +191,7 @@ static void check_survey(void)
     EXPECT(out[MIZBULETT_SURVEY_BLANK], BLANK);
     EXPECT(out[MIZBULETT_SURVEY_READ], READ);
     EXPECT(out[MIZBULETT_SURVEY_OVER], OVER);
+    EXPECT(out[MIZBULETT_SURVEY_UNDER], UNDER);
     EXPECT(out[MIZBULETT_SURVEY_LOST], LOST);
     EXPECT(out[MIZBULETT_SURVEY_BAD], BAD);
     EXPECT(out[MIZBULETT_SURVEY_SUM], 4124);
@@ -195,6 +199,12 @@ static void check_survey(void)
     EXPECT(out[MIZBULETT_SURVEY_SMALLEST], 10);
     EXPECT(out[MIZBULETT_SURVEY_LARGEST], 4094);
     EXPECT(out[MIZBULETT_SURVEY_MEAN], 1374);
+
+    /* The lowest pressure is the reading after MIZBULETT_UNDER. */
+    EXPECT(mizbulett_put(trace, len, SLOTS - 1, 0, MIZBULETT_UNDER + 1), MIZBULETT_ACCEPTED);
+    EXPECT(mizbulett_survey(trace, len, out), MIZBULETT_ACCEPTED);
+    EXPECT(out[MIZBULETT_SURVEY_READ], READ);
+    EXPECT(out[MIZBULETT_SURVEY_SMALLEST], MIZBULETT_UNDER + 1);
 }
 
 int main(void)

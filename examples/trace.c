@@ -1,16 +1,22 @@
-/* A trace of four slots: readings put, one damaged and marked, one damaged beyond mending; each read back, then a survey. */
+/* A trace of five slots: pressures and readings that are none, damage that is mended and damage that is not; then a survey. */
 #include <inttypes.h>
 #include <stdio.h>
 
 #include "mizbulett.h"
 
-enum { SLOTS = 4, SIZE = MIZBULETT_SIZE(SLOTS) };
+enum { SLOTS = 5, SIZE = MIZBULETT_SIZE(SLOTS) };
 
 static void expect_accepted(const char *call, uint64_t number)
 {
     if (number != MIZBULETT_ACCEPTED) {
         printf("%s: refused %" PRIu64 "\n", call, number);
     }
+}
+
+/* A reading under or over the converter's range is no pressure. */
+static int is_pressure(uint64_t reading)
+{
+    return reading > MIZBULETT_UNDER && reading < MIZBULETT_OVER;
 }
 
 static void print_slot(const uint8_t *trace, uint64_t slot)
@@ -22,7 +28,7 @@ static void print_slot(const uint8_t *trace, uint64_t slot)
     } else {
         printf("slot %" PRIu64 ": step %" PRIu64 " reading %" PRIu64 ", %" PRIu64 " wrong, %" PRIu64 " marked%s\n", slot,
                out[MIZBULETT_READ_STEP], out[MIZBULETT_READ_READING], out[MIZBULETT_READ_WRONG], out[MIZBULETT_READ_MARKS],
-               out[MIZBULETT_READ_READING] == MIZBULETT_OVER ? ", no pressure" : "");
+               is_pressure(out[MIZBULETT_READ_READING]) ? "" : ", no pressure");
     }
 }
 
@@ -35,6 +41,7 @@ int main(void)
     expect_accepted("put", mizbulett_put(trace, SIZE, 0, 74, 2385));
     expect_accepted("put", mizbulett_put(trace, SIZE, 1, 75, MIZBULETT_OVER));
     expect_accepted("put", mizbulett_put(trace, SIZE, 2, 76, 2401));
+    expect_accepted("put", mizbulett_put(trace, SIZE, 3, 77, MIZBULETT_UNDER));
 
     /* Slot 0: two wrong bits and three marks, one of them on a wrong bit: 2 * 1 + 3 is at most 7, and it is mended. */
     expect_accepted("flip", mizbulett_flip(trace, SIZE, 0, 3));
@@ -49,14 +56,15 @@ int main(void)
     }
 
     /* A step that the code has no room for: refused, and nothing changes. */
-    printf("put 3 128 0: refused %" PRIu64 "\n", mizbulett_put(trace, SIZE, 3, 128, 0));
+    printf("put 4 128 900: refused %" PRIu64 "\n", mizbulett_put(trace, SIZE, 4, 128, 900));
 
     for (uint64_t slot = 0; slot < SLOTS; slot++) {
         print_slot(trace, slot);
     }
     expect_accepted("survey", mizbulett_survey(trace, SIZE, out));
-    printf("blank %" PRIu64 " read %" PRIu64 " over %" PRIu64 " lost %" PRIu64 " bad %" PRIu64 "\n", out[MIZBULETT_SURVEY_BLANK],
-           out[MIZBULETT_SURVEY_READ], out[MIZBULETT_SURVEY_OVER], out[MIZBULETT_SURVEY_LOST], out[MIZBULETT_SURVEY_BAD]);
+    printf("blank %" PRIu64 " read %" PRIu64 " over %" PRIu64 " under %" PRIu64 " lost %" PRIu64 " bad %" PRIu64 "\n",
+           out[MIZBULETT_SURVEY_BLANK], out[MIZBULETT_SURVEY_READ], out[MIZBULETT_SURVEY_OVER], out[MIZBULETT_SURVEY_UNDER],
+           out[MIZBULETT_SURVEY_LOST], out[MIZBULETT_SURVEY_BAD]);
     if (out[MIZBULETT_SURVEY_PRESENT] == 1) {
         printf("pressures from %" PRIu64 " to %" PRIu64 ", mean %" PRIu64 "\n", out[MIZBULETT_SURVEY_SMALLEST],
                out[MIZBULETT_SURVEY_LARGEST], out[MIZBULETT_SURVEY_MEAN]);

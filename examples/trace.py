@@ -1,5 +1,5 @@
 #!/usr/bin/env python3
-"""A trace of four slots: readings put, one damaged and marked, one damaged beyond mending; each read back, then a survey.
+"""A trace of five slots: pressures and readings that are none, damage that is mended and damage that is not; then a survey.
 
 The argument is the path of the shared object. include/mizbulett.h documents every call, number and value.
 """
@@ -7,8 +7,9 @@ import ctypes
 import sys
 
 CODE_36_O = 1
+UNDER = 0
 OVER = 4095
-SLOTS = 4
+SLOTS = 5
 SIZE = 11 * SLOTS + 8
 
 NUMBER = ctypes.c_uint64
@@ -40,10 +41,11 @@ def main():
     library = ctypes.CDLL(sys.argv[1])
     make, put = declared(library, "make", 2), declared(library, "put", 3)
     flip, mark = declared(library, "flip", 2), declared(library, "mark", 2)
-    read, survey = declared(library, "read", 1, values=4), declared(library, "survey", 0, values=10)
+    read, survey = declared(library, "read", 1, values=4), declared(library, "survey", 0, values=11)
 
     trace = bytearray(SIZE)
-    answers = [make(trace, CODE_36_O, SLOTS), put(trace, 0, 74, 2385), put(trace, 1, 75, OVER), put(trace, 2, 76, 2401)]
+    answers = [make(trace, CODE_36_O, SLOTS)]
+    answers += [put(trace, slot, 74 + slot, reading) for slot, reading in enumerate((2385, OVER, 2401, UNDER))]
 
     # Slot 0: two wrong bits and three marks, one of them on a wrong bit: 2 * 1 + 3 is at most 7, and it is mended.
     answers += [flip(trace, 0, position) for position in (3, 35)]
@@ -54,19 +56,20 @@ def main():
     assert not any(answers), answers
 
     # A step that the code has no room for: refused, and nothing changes.
-    print("put 3 128 0: refused", put(trace, 3, 128, 0))
+    print("put 4 128 900: refused", put(trace, 4, 128, 900))
 
     for slot in range(SLOTS):
         number, (step, reading, wrong, marks) = read(trace, slot)
         if number != 0:
             print(f"slot {slot}: refused {number}")
         else:
-            note = ", no pressure" if reading == OVER else ""
+            # A reading under or over the converter's range is no pressure.
+            note = "" if UNDER < reading < OVER else ", no pressure"
             print(f"slot {slot}: step {step} reading {reading}, {wrong} wrong, {marks} marked{note}")
 
-    number, (blank, pressures, over, lost, bad, _, present, smallest, largest, mean) = survey(trace)
+    number, (blank, pressures, over, under, lost, bad, _, present, smallest, largest, mean) = survey(trace)
     assert number == 0, number
-    print(f"blank {blank} read {pressures} over {over} lost {lost} bad {bad}")
+    print(f"blank {blank} read {pressures} over {over} under {under} lost {lost} bad {bad}")
     print(f"pressures from {smallest} to {largest}, mean {mean}" if present else "no pressure")
 
 

@@ -1,11 +1,11 @@
-//! A trace of four slots: readings put, one damaged and marked, one damaged beyond mending; each read back, then a survey.
+//! A trace of five slots: pressures and readings that are none, damage that is mended and damage that is not; then a survey.
 
 #[path = "../include/mizbulett.rs"]
 mod mizbulett;
 
-use mizbulett::{flip, make, mark, put, read, size, survey, CODE_36_O, OVER};
+use mizbulett::{flip, make, mark, put, read, size, survey, CODE_36_O, OVER, UNDER};
 
-const SLOTS: u64 = 4;
+const SLOTS: u64 = 5;
 
 /// Makes and damages the trace. The number is that of a refused call.
 fn shift(trace: &mut [u8]) -> Result<(), u64> {
@@ -13,6 +13,7 @@ fn shift(trace: &mut [u8]) -> Result<(), u64> {
     put(trace, 0, 74, 2385)?;
     put(trace, 1, 75, OVER)?;
     put(trace, 2, 76, 2401)?;
+    put(trace, 3, 77, UNDER)?;
 
     // Slot 0: two wrong bits and three marks, one of them on a wrong bit: 2 * 1 + 3 is at most 7, and it is mended.
     for position in [3, 35] {
@@ -34,20 +35,22 @@ fn main() {
     shift(&mut trace).expect("every call is accepted");
 
     // A step that the code has no room for: refused, and nothing changes.
-    let refused = put(&mut trace, 3, 128, 0).expect_err("128 steps have the numbers 0 to 127");
-    println!("put 3 128 0: refused {refused}");
+    let refused = put(&mut trace, 4, 128, 900).expect_err("128 steps have the numbers 0 to 127");
+    println!("put 4 128 900: refused {refused}");
 
     for slot in 0..SLOTS {
         match read(&trace, slot) {
             Ok([step, reading, wrong, marks]) => {
-                let note = if reading == OVER { ", no pressure" } else { "" };
+                // A reading under or over the converter's range is no pressure.
+                let note = if UNDER < reading && reading < OVER { "" } else { ", no pressure" };
                 println!("slot {slot}: step {step} reading {reading}, {wrong} wrong, {marks} marked{note}");
             }
             Err(number) => println!("slot {slot}: refused {number}"),
         }
     }
     let counts = survey(&trace).expect("a whole trace");
-    println!("blank {} read {} over {} lost {} bad {}", counts.blank, counts.read, counts.over, counts.lost, counts.bad);
+    let mizbulett::Survey { blank, read, over, under, lost, bad, .. } = counts;
+    println!("blank {blank} read {read} over {over} under {under} lost {lost} bad {bad}");
     match counts.pressures {
         Some(p) => println!("pressures from {} to {}, mean {}", p.smallest, p.largest, p.mean),
         None => println!("no pressure"),

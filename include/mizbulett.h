@@ -12,7 +12,8 @@
  * read then gives wrong 0. Many reads in which 2 * wrong + marks is 6 or 7, as with three wrong bits, or many lost ones,
  * are a warning: such a trace is one to look at before any limit is set from it.
  *
- * A reading of 4095 (MIZBULETT_OVER) is where the converter tops out: it is no pressure, and a survey never counts it as one.
+ * A reading of 0 (MIZBULETT_UNDER) is under the converter's range, as when the sensor's plug is out; at 4095 (MIZBULETT_OVER)
+ * the converter tops out. Neither is a pressure, and a survey counts neither as one. A read gives them like any other reading.
  *
  * Every function returns 0 where the call is accepted, and else one number, below. A refused call writes nothing: neither
  * the buffer nor `out`. Any numbers and any bytes may be passed; the smallest number that applies is returned, but 5 on a
@@ -28,11 +29,11 @@
  *
  * Figures of the archive that `rt staticlib mizbulett` writes:
  *   machine   x86-64 with the System V calling convention (ELF); position independent; SSE registers and the red zone are used
- *   size      18.5 kB, of which 10.2 kB are code and constants (ls, size)
+ *   size      18.9 kB, of which 10.3 kB are code and constants (ls, size)
  *   memory    no heap, and no data that is written: .data and .bss have 0 bytes (size, nm)
  *   symbols   the ten functions below are defined, and memset is needed (nm -g)
- *   stack     3,232 bytes at most, beside what memset takes, by the frames in the disassembly: the search in correct, read
- *             and survey calls itself once a column, ten deep. Of a painted stack no call used more than 3,216 bytes, on
+ *   stack     3,248 bytes at most, beside what memset takes, by the frames in the disassembly: the search in correct, read
+ *             and survey calls itself once a column, ten deep. Of a painted stack no call used more than 3,232 bytes, on
  *             traces of 4,000 damaged slots
  * They are measured, not proved: no theorem bounds the stack. And nothing but the tests (examples/run, bench/run) holds this
  * header, mizbulett.rs and examples/trace.py to the source: link what was built from one commit.
@@ -43,14 +44,17 @@
 #include <stddef.h>
 #include <stdint.h>
 
-/* Raised whenever a call's numbers or values change. */
-#define MIZBULETT_VERSION 1
+/* Raised whenever a call's numbers or values change; docs/CHANGES.md says which. Neither the linker nor a call compares it: a caller
+ * that was compiled with another version's header, or declares the calls by hand, as from Python, may lend too short an `out`,
+ * which is then overrun, and take one value for another. Compile every caller anew. */
+#define MIZBULETT_VERSION 2
 
 /* The most slots that a trace has, and the bytes of a trace of n slots: what a buffer needs at least. */
 #define MIZBULETT_MAX_SLOTS 4000
 #define MIZBULETT_SIZE(n) (UINT64_C(11) * (n) + 8)
 
-/* The reading at which the converter tops out. Pressures are the readings below it. */
+/* The readings under and over the converter's range. Pressures are the readings above the one and below the other: 1 to 4094. */
+#define MIZBULETT_UNDER 0
 #define MIZBULETT_OVER 4095
 
 #ifdef __cplusplus
@@ -121,7 +125,7 @@ uint64_t mizbulett_correct(uint64_t code, uint64_t word, uint64_t marks, uint64_
 
 enum {
     MIZBULETT_READ_STEP = 0,
-    MIZBULETT_READ_READING = 1, /* a pressure where it is below MIZBULETT_OVER, and only there */
+    MIZBULETT_READ_READING = 1, /* a pressure where it is above MIZBULETT_UNDER and below MIZBULETT_OVER, and only there */
     MIZBULETT_READ_WRONG = 2,   /* the positions that differ and are not marked */
     MIZBULETT_READ_MARKS = 3,   /* the marked positions */
     MIZBULETT_READ_VALUES = 4
@@ -129,16 +133,17 @@ enum {
 
 enum {
     MIZBULETT_SURVEY_BLANK = 0,
-    MIZBULETT_SURVEY_READ = 1,     /* slots with a pressure: a reading of 0 to 4094 */
+    MIZBULETT_SURVEY_READ = 1,     /* slots with a pressure: a reading of 1 to 4094 */
     MIZBULETT_SURVEY_OVER = 2,     /* slots with a reading of MIZBULETT_OVER */
-    MIZBULETT_SURVEY_LOST = 3,     /* slots whose read is refused MIZBULETT_NONE_NEAR */
-    MIZBULETT_SURVEY_BAD = 4,      /* slots whose read is refused MIZBULETT_SLOT_BAD */
-    MIZBULETT_SURVEY_SUM = 5,      /* of the pressures */
-    MIZBULETT_SURVEY_PRESENT = 6,  /* 1 where there is a pressure, else 0 */
-    MIZBULETT_SURVEY_SMALLEST = 7, /* this and the next two are 0, and no pressures, where MIZBULETT_SURVEY_PRESENT is 0 */
-    MIZBULETT_SURVEY_LARGEST = 8,
-    MIZBULETT_SURVEY_MEAN = 9,     /* rounded down */
-    MIZBULETT_SURVEY_VALUES = 10
+    MIZBULETT_SURVEY_UNDER = 3,    /* slots with a reading of MIZBULETT_UNDER */
+    MIZBULETT_SURVEY_LOST = 4,     /* slots whose read is refused MIZBULETT_NONE_NEAR */
+    MIZBULETT_SURVEY_BAD = 5,      /* slots whose read is refused MIZBULETT_SLOT_BAD */
+    MIZBULETT_SURVEY_SUM = 6,      /* of the pressures */
+    MIZBULETT_SURVEY_PRESENT = 7,  /* 1 where there is a pressure, else 0 */
+    MIZBULETT_SURVEY_SMALLEST = 8, /* this and the next two are 0, and no pressures, where MIZBULETT_SURVEY_PRESENT is 0 */
+    MIZBULETT_SURVEY_LARGEST = 9,
+    MIZBULETT_SURVEY_MEAN = 10,    /* rounded down */
+    MIZBULETT_SURVEY_VALUES = 11
 };
 
 /* Makes a trace of blank slots at the end of buf. Refusals 1, 6, 7. */
@@ -159,7 +164,7 @@ uint64_t mizbulett_clear(uint8_t *buf, size_t len, uint64_t slot);
 /* Mends a slot; the buffer stays as it is. Refusals 7 to 11, then 5. */
 uint64_t mizbulett_read(const uint8_t *buf, size_t len, uint64_t slot, uint64_t out[MIZBULETT_READ_VALUES]);
 
-/* Counts the slots by what a read of each gives, and sums up the pressures: the readings 0 to 4094 alone. Refusals 7, 8. */
+/* Counts the slots by what a read of each gives, and sums up the pressures: the readings 1 to 4094 alone. Refusals 7, 8. */
 uint64_t mizbulett_survey(const uint8_t *buf, size_t len, uint64_t out[MIZBULETT_SURVEY_VALUES]);
 
 #ifdef __cplusplus

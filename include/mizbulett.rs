@@ -10,7 +10,8 @@ pub const fn size(n: u64) -> usize {
     11 * n as usize + 8
 }
 
-/// The reading at which the converter tops out. Pressures are the readings below it.
+/// The readings under and over the converter's range. Pressures are the readings above the one and below the other: 1 to 4094.
+pub const UNDER: u64 = 0;
 pub const OVER: u64 = 4095;
 
 // What a refused call answers.
@@ -56,14 +57,15 @@ pub const READ_VALUES: usize = 4;
 pub const SURVEY_BLANK: usize = 0;
 pub const SURVEY_READ: usize = 1;
 pub const SURVEY_OVER: usize = 2;
-pub const SURVEY_LOST: usize = 3;
-pub const SURVEY_BAD: usize = 4;
-pub const SURVEY_SUM: usize = 5;
-pub const SURVEY_PRESENT: usize = 6;
-pub const SURVEY_SMALLEST: usize = 7;
-pub const SURVEY_LARGEST: usize = 8;
-pub const SURVEY_MEAN: usize = 9;
-pub const SURVEY_VALUES: usize = 10;
+pub const SURVEY_UNDER: usize = 3;
+pub const SURVEY_LOST: usize = 4;
+pub const SURVEY_BAD: usize = 5;
+pub const SURVEY_SUM: usize = 6;
+pub const SURVEY_PRESENT: usize = 7;
+pub const SURVEY_SMALLEST: usize = 8;
+pub const SURVEY_LARGEST: usize = 9;
+pub const SURVEY_MEAN: usize = 10;
+pub const SURVEY_VALUES: usize = 11;
 
 mod c {
     use super::{CORRECT_VALUES, DECODE_VALUES, ENCODE_VALUES, READ_VALUES, SURVEY_VALUES};
@@ -132,7 +134,7 @@ pub fn read(buf: &[u8], slot: u64) -> Result<[u64; READ_VALUES], u64> {
     answer(|out| unsafe { c::mizbulett_read(buf.as_ptr(), buf.len(), slot, out) })
 }
 
-/// Smallest, largest and mean of the readings 0 to 4094.
+/// Smallest, largest and mean of the readings 1 to 4094.
 #[derive(Clone, Copy, Debug, PartialEq)]
 pub struct Pressures {
     pub smallest: u64,
@@ -140,12 +142,13 @@ pub struct Pressures {
     pub mean: u64,
 }
 
-/// How many slots a read gives what for, the sum of the readings 0 to 4094, and what is known of them where there is one.
+/// How many slots a read gives what for, the sum of the readings 1 to 4094, and what is known of them where there is one.
 #[derive(Clone, Copy, Debug, PartialEq)]
 pub struct Survey {
     pub blank: u64,
     pub read: u64,
     pub over: u64,
+    pub under: u64,
     pub lost: u64,
     pub bad: u64,
     pub sum: u64,
@@ -159,6 +162,7 @@ pub fn survey(buf: &[u8]) -> Result<Survey, u64> {
         blank: out[SURVEY_BLANK],
         read: out[SURVEY_READ],
         over: out[SURVEY_OVER],
+        under: out[SURVEY_UNDER],
         lost: out[SURVEY_LOST],
         bad: out[SURVEY_BAD],
         sum: out[SURVEY_SUM],

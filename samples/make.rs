@@ -3,7 +3,7 @@
 #[path = "../include/mizbulett.rs"]
 mod mizbulett;
 
-use mizbulett::{flip, make, mark, put, size, CODE_36_E, CODE_36_O, CODE_40_O, OVER};
+use mizbulett::{flip, make, mark, put, size, CODE_36_E, CODE_36_O, CODE_40_E, CODE_40_O, OVER, UNDER};
 use std::path::Path;
 
 /// A blank trace behind some free bytes.
@@ -49,14 +49,29 @@ fn blocked() -> Vec<u8> {
     bytes
 }
 
-/// A spoilt card with a name before the slots: lost, bad, blank, over-range and mended slots.
+/// A line whose sensor plug was out for half of the night: the converter gave 0, also where the optical reader had trouble.
+fn unplugged() -> Vec<u8> {
+    let mut bytes = trace(0, CODE_40_E, 24);
+    for slot in 0..24 {
+        store(&mut bytes, slot, if (7..19).contains(&slot) { UNDER } else { 840 + slot * 29 % 41 });
+    }
+    damage(&mut bytes, 12, &[33], &[34]);
+    bytes
+}
+
+/// A spoilt card with a name before the slots: lost, bad, blank, over-range, under-range and mended slots.
 fn damaged() -> Vec<u8> {
     let name = b"WARD 7 BED 3";
     let slots = 12;
     let mut bytes = trace(name.len(), CODE_36_E, slots);
     bytes[..name.len()].copy_from_slice(name);
     for slot in 0..10 {
-        store(&mut bytes, slot, if slot == 6 { OVER } else { 1310 + slot * 11 });
+        let reading = match slot {
+            6 => OVER,
+            7 => UNDER,
+            _ => 1310 + slot * 11,
+        };
+        store(&mut bytes, slot, reading);
     }
     damage(&mut bytes, 1, &[0, 12, 24], &[]);
     damage(&mut bytes, 2, &[0, 9, 18, 27], &[]);
@@ -69,7 +84,7 @@ fn damaged() -> Vec<u8> {
 
 fn main() {
     let folder = std::env::args().nth(1).expect("the folder to write to");
-    for (name, bytes) in [("shift", shift()), ("blocked", blocked()), ("damaged", damaged())] {
+    for (name, bytes) in [("shift", shift()), ("blocked", blocked()), ("unplugged", unplugged()), ("damaged", damaged())] {
         std::fs::write(Path::new(&folder).join(name).with_extension("trace"), bytes).expect("a folder that can be written to");
     }
 }

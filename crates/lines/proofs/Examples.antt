@@ -1,8 +1,8 @@
 -- Texts of files that are given byte for byte, from the bytes to the text: listings and reports of the scope's, of refused ones and of one with
--- a bad slot, and the lines of calls on them; and the lines of what can't be played. Trailer, slots, survey and lines are computed by their
--- definitions. Mending is a search through all codewords, and the codes' claims give what it finds in the scope's file: slot 0 is two positions
--- from the codeword of 74·4096 + 2385, slot 3 is the codeword of 4095, and slot 2 is that one with the four bits of a column inverted, so that
--- its sum is 8 and no codeword is near.
+-- a bad slot, a listing of one whose slot is under, and the lines of calls on them; and the lines of what can't be played. Trailer, slots, survey
+-- and lines are computed by their definitions. Mending is a search through all codewords, and the codes' claims give what it finds. In the scope's
+-- file slot 0 is two positions from the codeword of 74·4096 + 2385, slot 3 is the codeword of 4095, and slot 2 is that one with the four bits of a
+-- column inverted, so that its sum is 8 and no codeword is near. The word 0 is the codeword of message 0.
 use mathlib.Core.Path.{_≡_, refl, ap}
 use mathlib.Core.Option.{none, some}
 use lib.Dec.{lit<}
@@ -29,13 +29,13 @@ use Rattle.lines.specs.Listing.{ending, slotLine, slotLines, listing}
 use Rattle.lines.specs.Answers.{surveyLine, bytesLine}
 use Rattle.lines.specs.Trouble.{visibleByte, shown, troubleLine}
 use Rattle.lines.specs.Report.{statusLine, report}
-use Rattle.lines.specs.Claims.{exampleFile, Example, badFile, OtherListings, ListedNumbers, ExampleReport, OtherReports, AnswerLines, TroubleLines}
+use Rattle.lines.specs.Claims.{exampleFile, Example, underFile, badFile, OtherListings, ListedNumbers, ExampleReport, OtherReports, AnswerLines, TroubleLines}
 
 -- code 1
 abbrev π : Projection
 π = projection O36
 
--- what mending finds in each written slot
+-- what mending finds in each written slot of the scope's file
 slot-0 : correct π 0x2E485A2D4 0 ≡ some (record { codeword = 0x2E48722D4; message = 305489; wrong = 2; marks = 0 })
 unfolding isCodeword decode
 slot-0 = near-correct O36 0x2E485A2D4 0 0x2E48722D4 (record { fits = lit< tt; codeword = refl; near = refl })
@@ -48,13 +48,13 @@ slot-3 : correct π 0x9CACFFF96 0 ≡ some (record { codeword = 0x9CACFFF96; mes
 unfolding isCodeword decode
 slot-3 = near-correct O36 0x9CACFFF96 0 0x9CACFFF96 (record { fits = lit< tt; codeword = refl; near = refl })
 
--- what a survey finds in all of them
+-- what a survey finds in all its slots
 example-survey :
     surveyIn exampleFile
     ≡ accepted
     record {
       slots = 4;
-      counts = record { blank = 1; read = 1; over = 1; lost = 1; bad = 0 };
+      counts = record { blank = 1; read = 1; over = 1; under = 0; lost = 1; bad = 0 };
       sum = 2385;
       pressures = Pressures.Present 2385 2385 2385;
     }
@@ -62,6 +62,11 @@ unfolding
     exampleFile part numberFrom placeFrom isFit isBad contentWith viewIn readContent readCorrected surveyIn surveyOf answersOf count statusOf
     pressures total smallest largest extremes
 example-survey = rw (slot-0, slot-2, slot-3)
+
+-- what mending finds in the slot that is under
+slot-under : correct π 0 0 ≡ some (record { codeword = 0; message = 0; wrong = 0; marks = 0 })
+unfolding isCodeword decode
+slot-under = near-correct O36 0 0 0 (record { fits = lit< tt; codeword = refl; near = refl })
 
 pub example : Example
 unfolding
@@ -71,13 +76,13 @@ example = rw (slot-0, slot-2, slot-3)
 
 pub other-listings : OtherListings
 unfolding
-    badFile part numberFrom placeFrom isFit isBad contentWith viewIn aloneIn readContent surveyIn surveyOf answersOf count statusOf
+    underFile badFile part numberFrom placeFrom isFit isBad contentWith viewIn aloneIn readContent readCorrected surveyIn surveyOf answersOf count statusOf
     surveyFile listing slotLines slotLine ending noted each decimal digits
-other-listings = record { long = λ file h. rw (lt-ltb 65536 (length file) h); none = refl; zeros = refl; bad = refl }
+other-listings = record { long = λ file h. rw (lt-ltb 65536 (length file) h); none = refl; zeros = refl; under = rw slot-under; bad = refl }
 
 pub listed-numbers : ListedNumbers
 unfolding statusOf slotLine ending noted each decimal digits
-listed-numbers = record { read = refl; over = refl; total = refl }
+listed-numbers = record { read = refl; over = refl; under = refl; total = refl }
 
 pub example-report : ExampleReport
 unfolding exampleFile surveyFile report statusLine noted each decimal digits
@@ -91,7 +96,7 @@ other-reports = record { long = λ file h. rw (lt-ltb 65536 (length file) h); no
 
 pub answer-lines : AnswerLines
 unfolding
-    exampleFile badFile part numberFrom placeFrom isFit isBad contentWith viewIn aloneIn readContent readCorrected
+    exampleFile underFile badFile part numberFrom placeFrom isFit isBad contentWith viewIn aloneIn readContent readCorrected
     surveyIn surveyOf answersOf count statusOf pressures total extremes bytesLine hex noted each decimal digits
 answer-lines =
     record {
@@ -101,6 +106,8 @@ answer-lines =
       lost = rw slot-2;
       survey = ap surveyLine example-survey;
       numbers = refl;
+      zero = rw slot-under;
+      under = rw slot-under;
       absent = refl;
       refused = refl;
       bytes = refl;

@@ -1,4 +1,4 @@
--- A survey's values and its report, as the code puts them together: the values that are present are the first of nine, and a refusal has one of
+-- A survey's values and its report, as the code puts them together: the values that are present are the first of ten, and a refusal has one of
 -- two notes.
 use mathlib.Core.Path.{_≡_, refl, sym, ap}
 use mathlib.Core.List.{List, _∷_, _++_}
@@ -10,7 +10,7 @@ use Rattle.codes.specs.Answer.{accepted, refused}
 use Rattle.trace.specs.declared.answer.Pressures.{Pressures}
 use Rattle.trace.specs.declared.answer.Survey.{Survey}
 use Rattle.trace.specs.declared.answer.SurveyValues.{SurveyValues}
-use Rattle.trace.specs.Answers.{countsValues, pressuresValues, pressuresInThree, surveyValues, surveyInNine}
+use Rattle.trace.specs.Answers.{countsValues, pressuresValues, pressuresInThree, surveyValues, surveyPadded}
 use Rattle.lines.specs.Text.{text, noted, line}
 use Rattle.lines.specs.Input.{surveyFile}
 use Rattle.lines.specs.Answers.{surveyLine}
@@ -18,14 +18,14 @@ use Rattle.lines.specs.Report.{reportLine, pressureLines, countLines, re
 
 -- ---- a survey's values
 
-values-few : (s : Survey) → length (surveyValues s) ≤ 9
+values-few : (s : Survey) → length (surveyValues s) ≤ 10
 values-few s = go (s .pressures)
   where
-    go : (p : Pressures) → length (countsValues (s .counts) ++ (s .sum ∷ pressuresValues p)) ≤ 9
+    go : (p : Pressures) → length (countsValues (s .counts) ++ (s .sum ∷ pressuresValues p)) ≤ 10
     go Pressures.Absent = omega arith
     go (Pressures.Present smallest largest mean) = omega arith
 
-values-first : (s : Survey) → take (length (surveyValues s)) (surveyInNine s .values) ≡ surveyValues s
+values-first : (s : Survey) → take (length (surveyValues s)) (surveyPadded s .values) ≡ surveyValues s
 values-first s = go (s .pressures)
   where
     go : (p : Pressures)
@@ -34,12 +34,12 @@ values-first s = go (s .pressures)
     go Pressures.Absent = refl
     go (Pressures.Present smallest largest mean) = refl
 
-module _ (s : Survey) (v : SurveyValues) (e : v ≡ surveyInNine s) where
+module _ (s : Survey) (v : SurveyValues) (e : v ≡ surveyPadded s) where
   -- the values that are present
   abbrev pub given : List ℕ
   given = take (v .count) (v .values)
 
-  pub given-few : (v .count ≡ length given) × (v .count ≤ 9)
+  pub given-few : (v .count ≡ length given) × (v .count ≤ 10)
   given-few = rw e (ap length (sym (values-first s)), values-few s)
 
   pub given-fit : v .count ≤ length (v .values)

@@ -20,7 +20,7 @@ abbrev pub absences : Pressures → List ℕ
 absences Pressures.Absent = text " - - -"
 absences (Pressures.Present smallest largest mean) = []
 
--- a survey's line has nine places, whether or not there is a pressure
+-- a survey's line has ten places, whether or not there is a pressure
 abbrev pub surveyLine : Answer Survey → List ℕ
 surveyLine (accepted s) = noted (text "ok") (surveyValues s) (absences (s .pressures))
 surveyLine (refused number) = refusedLine number

@@ -19,14 +19,16 @@ abbrev pub statusWord : Status → List ℕ
 statusWord Status.Blank = text " blank"
 statusWord Status.Read = text " read"
 statusWord Status.Over = text " over"
+statusWord Status.Under = text " under"
 statusWord Status.Lost = text " lost"
 statusWord Status.Bad = text " bad"
 
--- '.. then step, reading, wrong, marks for read; step, wrong, marks for over'
+-- '.. then step, reading, wrong, marks for read; step, wrong, marks for over'; 'the listing prints under as it prints over'
 abbrev pub statusValues : Status → Reading → List ℕ
 statusValues Status.Blank v = []
 statusValues Status.Read v = readingValues v
 statusValues Status.Over v = v .step ∷ v .wrong ∷ v .marks ∷ []
+statusValues Status.Under v = v .step ∷ v .wrong ∷ v .marks ∷ []
 statusValues Status.Lost v = []
 statusValues Status.Bad v = []
 
@@ -46,7 +48,7 @@ slotLines answers (suc n) = slotLines answers n ++ slotLine n (answers n)
 
 -- ---- a listing
 
--- 'The last line is total, N, blank, read, over, lost, bad'
+-- 'The last line is total, N, blank, read, over, lost, bad'; 'The total line has under after over'
 abbrev pub totalLine : ℕ → Counts → List ℕ
 totalLine n c = line (text "total") (n ∷ countsValues c)
 

@@ -26,8 +26,9 @@ pressureLines (Pressures.Present smallest largest mean) =
 -- how many slots have a status, with what it means
 unfoldable pub statusLine : Status → ℕ → List ℕ
 statusLine Status.Blank n = reportLine (text "blank") n (text ": nothing is stored")
-statusLine Status.Read n = reportLine (text "read") n (text ": pressures, 0 to 4094; smallest, largest and mean are of these alone")
+statusLine Status.Read n = reportLine (text "read") n (text ": pressures, 1 to 4094; smallest, largest and mean are of these alone")
 statusLine Status.Over n = reportLine (text "over") n (text ": the converter topped out at 4095, and the pressure is unknown")
+statusLine Status.Under n = reportLine (text "under") n (text ": the converter gave 0, as with the plug out, and the pressure is unknown")
 statusLine Status.Lost n = reportLine (text "lost") n (text ": too much is damaged to say what the reading was")
 statusLine Status.Bad n = reportLine (text "bad") n (text ": bytes that no call writes")
 
@@ -37,9 +38,10 @@ countLines slots c =
     reportLine (text "slots") slots []
     ++ (statusLine Status.Read (c .read)
     ++ (statusLine Status.Over (c .over)
+    ++ (statusLine Status.Under (c .under)
     ++ (statusLine Status.Lost (c .lost)
     ++ (statusLine Status.Bad (c .bad)
-    ++ statusLine Status.Blank (c .blank)))))
+    ++ statusLine Status.Blank (c .blank))))))
 
 -- why a survey refuses a file: 7, or else 8
 abbrev pub refusalNote : ℕ → List ℕ

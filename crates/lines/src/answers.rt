@@ -52,9 +52,9 @@ pub fn read_line(answer: ReadAnswer, out: &mut [u8; ANSWER]) -> usize
 
 // The line of an accepted survey: its values, and a `-` for each of smallest, largest and mean that is absent.
 fn surveyed_line(survey: Survey, out: &mut [u8]) -> usize
-    requires { ⌜ 198 ≤ length (now out) ⌝ }
+    requires { ⌜ 219 ≤ length (now out) ⌝ }
     ensures { λ r. ⌜ Written (now (out .entry)) 0 (surveyLine (accepted survey)) (now (out .exit)) r ⌝ }
-    ensures { λ r. ⌜ r ≤ 198 ⌝ }
+    ensures { λ r. ⌜ r ≤ 219 ⌝ }
 {
     let v = survey.values();
     let count = v.count;
@@ -67,7 +67,7 @@ fn surveyed_line(survey: Survey, out: &mut [u8]) -> usize
     }
 }
 
-// The line of a survey: blank, read, over, lost, bad, sum, smallest, largest, mean.
+// The line of a survey: blank, read, over, under, lost, bad, sum, smallest, largest, mean.
 pub fn survey_line(answer: SurveyAnswer, out: &mut [u8; ANSWER]) -> usize
     ensures { λ r. ⌜ Begins (now (out .entry)) (surveyLine (surveyAnswer answer)) (now (out .exit)) r ⌝ }
     ensures { λ r. ⌜ Lendable (now (out .exit)) r ⌝ }

@@ -50,12 +50,13 @@ fn end_line(out: &mut [u8], at: usize, status: Status, numbers: &[u64]) -> usize
         Status::Blank => write_line(out, at, b" blank", numbers),
         Status::Read => write_line(out, at, b" read", numbers),
         Status::Over => write_line(out, at, b" over", numbers),
+        Status::Under => write_line(out, at, b" under", numbers),
         Status::Lost => write_line(out, at, b" lost", numbers),
         Status::Bad => write_line(out, at, b" bad", numbers),
     }
 }
 
-// What follows the slot, by what a read of it answers: a reading that is no pressure is over, and its number isn't listed.
+// What follows the slot, by what a read of it answers: a reading that is no pressure, under or over, isn't listed.
 fn end_slot(out: &mut [u8], at: usize, answer: ReadAnswer) -> usize
     requires { ⌜ at + 90 ≤ length (now out) ⌝ }
     ensures { λ r. ⌜ Written (now (out .entry)) at (ending (readAnswer answer)) (now (out .exit)) r ⌝ }
@@ -84,14 +85,14 @@ pub(crate) fn slot_line(out: &mut [u8], at: usize, slot: u64, answer: ReadAnswer
     end_slot(out, end, answer)
 }
 
-// The last line: the number of slots, and how many are blank, read, over, lost and bad.
+// The last line: the number of slots, and how many are blank, read, over, under, lost and bad.
 pub(crate) fn total_line(out: &mut [u8], at: usize, slots: u64, counts: Counts) -> usize
-    requires { ⌜ at + 132 ≤ length (now out) ⌝ }
+    requires { ⌜ at + 153 ≤ length (now out) ⌝ }
     ensures { λ r. ⌜ Written (now (out .entry)) at (totalLine slots counts) (now (out .exit)) r ⌝ }
-    ensures { λ r. ⌜ r ≤ at + 132 ⌝ }
+    ensures { λ r. ⌜ r ≤ at + 153 ⌝ }
 {
     let c = counts.values();
-    let numbers = [slots, c[0], c[1], c[2], c[3], c[4]];
+    let numbers = [slots, c[0], c[1], c[2], c[3], c[4], c[5]];
     write_line(out, at, b"total", &numbers)
 }
 

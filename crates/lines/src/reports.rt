@@ -16,8 +16,8 @@ ghost use Rattle.lines.specs.Input.{InputBuffer, readInto};
 ghost use Rattle.lines.specs.Report.{reportLine, pressureLines, statusLine, countLines, reported, report};
 ghost use Rattle.lines.specs.ContractsOfSteps.{Written};
 
-// Every report fits: pressures in at most 126 bytes, the slots in 27, each status in 95.
-pub const REPORT: usize = 628;
+// Every report fits: pressures in at most 126 bytes, the slots in 27, each status in 100.
+pub const REPORT: usize = 753;
 
 // A name, a number, a note.
 fn report_line(out: &mut [u8], at: usize, name: &[u8], number: u64, note: &[u8]) -> usize
@@ -47,9 +47,9 @@ fn pressure_lines(out: &mut [u8], pressures: Pressures) -> usize
 
 // How many slots have a status, with what it means.
 fn status_line(out: &mut [u8], at: usize, status: Status, n: u64) -> usize
-    requires { ⌜ at + 95 ≤ length (now out) ⌝ }
+    requires { ⌜ at + 100 ≤ length (now out) ⌝ }
     ensures { λ r. ⌜ Written (now (out .entry)) at (statusLine status n) (now (out .exit)) r ⌝ }
-    ensures { λ r. ⌜ r ≤ at + 95 ⌝ }
+    ensures { λ r. ⌜ r ≤ at + 100 ⌝ }
 {
     match status {
         Status::Blank => report_line(out, at, b"blank", n, b": nothing is stored"),
@@ -58,7 +58,7 @@ fn status_line(out: &mut [u8], at: usize, status: Status, n: u64) -> usize
             at,
             b"read",
             n,
-            b": pressures, 0 to 4094; smallest, largest and mean are of these alone",
+            b": pressures, 1 to 4094; smallest, largest and mean are of these alone",
         ),
         Status::Over => report_line(
             out,
@@ -66,6 +66,13 @@ fn status_line(out: &mut [u8], at: usize, status: Status, n: u64) -> usize
             b"over",
             n,
             b": the converter topped out at 4095, and the pressure is unknown",
+        ),
+        Status::Under => report_line(
+            out,
+            at,
+            b"under",
+            n,
+            b": the converter gave 0, as with the plug out, and the pressure is unknown",
         ),
         Status::Lost => report_line(
             out,
@@ -80,14 +87,15 @@ fn status_line(out: &mut [u8], at: usize, status: Status, n: u64) -> usize
 
 // The number of slots, and how many of each status.
 fn count_lines(out: &mut [u8], at: usize, slots: u64, counts: Counts) -> usize
-    requires { ⌜ at + 502 ≤ length (now out) ⌝ }
+    requires { ⌜ at + 627 ≤ length (now out) ⌝ }
     ensures { λ r. ⌜ Written (now (out .entry)) at (countLines slots counts) (now (out .exit)) r ⌝ }
-    ensures { λ r. ⌜ r ≤ at + 502 ⌝ }
+    ensures { λ r. ⌜ r ≤ at + 627 ⌝ }
 {
     let all = report_line(out, at, b"slots", slots, b"");
     let read = status_line(out, all, Status::Read, counts.read);
     let over = status_line(out, read, Status::Over, counts.over);
-    let lost = status_line(out, over, Status::Lost, counts.lost);
+    let under = status_line(out, over, Status::Under, counts.under);
+    let lost = status_line(out, under, Status::Lost, counts.lost);
     let bad = status_line(out, lost, Status::Bad, counts.bad);
     status_line(out, bad, Status::Blank, counts.blank)
 }

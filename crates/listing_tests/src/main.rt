@@ -1,5 +1,5 @@
 // Listings of standard input, which has one byte more than is listed, and of files that are made here: refused ones, the longest one and
-// one byte more, free bytes before the slots, every status under every code, and the most slots.
+// one byte more, free bytes before the slots, readings at both ends of the range, every status under every code, and the most slots.
 use libc::STDIN_FILENO;
 use libc::STDOUT_FILENO;
 use trace::Done;
@@ -92,35 +92,50 @@ fn free_bytes() {
     list(&file);
 }
 
+// The readings at both ends of the range, which are no pressures, and those beside them; the lowest is mended.
+fn ends_of_range() {
+    text(b"0, 1, 4094 and 4095\n");
+    let mut file = [0u8; 63];
+    done(trace::make(&mut file, 1, 5));
+    done(trace::put(&mut file, 0, 3, 0));
+    done(trace::put(&mut file, 1, 3, 1));
+    done(trace::put(&mut file, 2, 3, 4094));
+    done(trace::put(&mut file, 3, 3, 4095));
+    done(trace::flip(&mut file, 0, 0));
+    done(trace::mark(&mut file, 0, 1));
+    list(&file);
+}
+
 // A slot of each status, then one with three wrong bits and one with seven marks.
 fn statuses(code: u64, step: u64) {
     text(b"code ");
     io::print_decimal(STDOUT_FILENO, code);
     text(b"\n");
-    let mut file = [0u8; 85];
-    done(trace::make(&mut file, code, 7));
+    let mut file = [0u8; 96];
+    done(trace::make(&mut file, code, 8));
     done(trace::put(&mut file, 1, step, 4094));
     done(trace::put(&mut file, 2, step, 4095));
-    done(trace::put(&mut file, 3, 0, 0));
-    done(trace::flip(&mut file, 3, 0));
-    done(trace::flip(&mut file, 3, 1));
-    done(trace::flip(&mut file, 3, 2));
-    done(trace::flip(&mut file, 3, 3));
-    // Slot 4 has a state that is neither blank nor written.
-    file[44] = 2;
-    done(trace::put(&mut file, 5, 1, 7));
-    done(trace::flip(&mut file, 5, 5));
-    done(trace::flip(&mut file, 5, 6));
-    done(trace::flip(&mut file, 5, 35));
-    done(trace::put(&mut file, 6, 2, 8));
-    done(trace::mark(&mut file, 6, 0));
-    done(trace::mark(&mut file, 6, 5));
-    done(trace::mark(&mut file, 6, 10));
-    done(trace::mark(&mut file, 6, 15));
-    done(trace::mark(&mut file, 6, 20));
-    done(trace::mark(&mut file, 6, 25));
-    done(trace::mark(&mut file, 6, 30));
-    done(trace::flip(&mut file, 6, 30));
+    done(trace::put(&mut file, 3, step, 0));
+    done(trace::put(&mut file, 4, 0, 0));
+    done(trace::flip(&mut file, 4, 0));
+    done(trace::flip(&mut file, 4, 1));
+    done(trace::flip(&mut file, 4, 2));
+    done(trace::flip(&mut file, 4, 3));
+    // Slot 5 has a state that is neither blank nor written.
+    file[55] = 2;
+    done(trace::put(&mut file, 6, 1, 7));
+    done(trace::flip(&mut file, 6, 5));
+    done(trace::flip(&mut file, 6, 6));
+    done(trace::flip(&mut file, 6, 35));
+    done(trace::put(&mut file, 7, 2, 8));
+    done(trace::mark(&mut file, 7, 0));
+    done(trace::mark(&mut file, 7, 5));
+    done(trace::mark(&mut file, 7, 10));
+    done(trace::mark(&mut file, 7, 15));
+    done(trace::mark(&mut file, 7, 20));
+    done(trace::mark(&mut file, 7, 25));
+    done(trace::mark(&mut file, 7, 30));
+    done(trace::flip(&mut file, 7, 30));
     list(&file);
 }
 
@@ -140,6 +155,7 @@ fn main() {
     longest_file();
     longer_file();
     free_bytes();
+    ends_of_range();
     statuses(1, 127);
     statuses(2, 127);
     statuses(3, 1023);

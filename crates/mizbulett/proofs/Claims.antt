@@ -14,8 +14,8 @@ use Rattle.trace.specs.Trace.{surveyIn}
 use Rattle.trace.specs.Claims.{numbersOf, Harmless}
 use Rattle.trace.proofs.Claims.{demand1, survey-gives}
 use Rattle.trace.proofs.Among.{has, each, among-apart}
-use Rattle.mizbulett.specs.Returned.{numberOf, returns, leaves, surveyInTen}
-use Rattle.mizbulett.specs.Claims.{ReturnsBy, ReturnNumbers}
+use Rattle.mizbulett.specs.Returned.{numberOf, returns, leaves, surveyFlagged}
+use Rattle.mizbulett.specs.Claims.{ReturnsBy, ReturnNumbers, SurveyPlaces}
 
 -- ---- tables have no 0
 
@@ -95,5 +95,8 @@ return-numbers =
       makings = λ m buf. by-bytes refl _ buf (demand1 .makings m buf);
       changes = λ c buf. by-bytes (calls-positive c) _ buf (demand1 .calls c buf);
       reads = λ slot buf out. by-values refl _ out (demand1 .calls (read slot) buf .answer);
-      surveys = λ buf out. by-values refl _ out (by-form surveyValues surveyInTen (surveyIn buf) (rw (survey-gives buf) at (demand1 .calls survey buf .answer)));
+      surveys = λ buf out. by-values refl _ out (by-form surveyValues surveyFlagged (surveyIn buf) (rw (survey-gives buf) at (demand1 .calls survey buf .answer)));
     }
+
+pub survey-places : SurveyPlaces
+survey-places = record { present = λ slots sum smallest largest mean c. refl; absent = λ slots sum c. refl }

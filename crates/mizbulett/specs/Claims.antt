@@ -1,16 +1,19 @@
--- What is claimed of the numbers that the calls for C return, a corollary of demand 1: 0 exactly where no row of the call's table is met, else the
--- number of the first that is, and then what is lent stays as it was. The claim is a theorem of the same name, in lower case, in proofs/.
+-- What is claimed of the calls for C. Of the numbers that they return, a corollary of demand 1: 0 exactly where no row of the call's table is met,
+-- else the number of the first that is, and then what is lent stays as it was. And of what stands where in a survey. Each claim is a theorem of the
+-- same name, in lower case, in proofs/.
 use mathlib.Core.Path.{_≡_}
 use mathlib.Core.Logic.{_↔_}
-use mathlib.Core.List.{List, _∷_}
+use mathlib.Core.List.{List, [], _∷_}
 use Prim.Native.Nat.{ℕ}
 use Rattle.codes.specs.Answer.{Row, mapAnswer, Passes, Refuses}
 use Rattle.codes.specs.Codes.{encoding, decoding, correcting, under}
 use Rattle.codes.specs.Claims.{Among, encodingNumbers, encodingRows, decodingNumbers, decodingRows, correctingNumbers, correctingRows}
+use Rattle.trace.specs.declared.answer.Counts.{Counts}
+use Rattle.trace.specs.declared.answer.Pressures.{Pressures}
 use Rattle.trace.specs.Calls.{Call, read, survey, Making}
 use Rattle.trace.specs.Trace.{refusalsIn, onBytes, makeRows, make, surveyIn}
 use Rattle.trace.specs.Claims.{numbersOf, makingNumbers}
-use Rattle.mizbulett.specs.Returned.{Returned, returns, leaves, surveyInTen}
+use Rattle.mizbulett.specs.Returned.{Returned, returns, leaves, surveyFlagged}
 
 pub record ReturnsBy (order : List ℕ) (rows : List Row) (lent : List ℕ) (r : Returned) : Type 0 where
   -- 0, or a number of the table
@@ -31,4 +34,13 @@ pub record ReturnNumbers : Type 0 where
   pub changes : (c : Call) (buf : List ℕ) → ReturnsBy (numbersOf c) (refusalsIn c buf) buf (leaves (onBytes c buf))
   pub reads : (slot : ℕ) (buf out : List ℕ)
       → ReturnsBy (numbersOf (read slot)) (refusalsIn (read slot) buf) out (returns (onBytes (read slot) buf .answer) out)
-  pub surveys : (buf out : List ℕ) → ReturnsBy (numbersOf survey) (refusalsIn survey buf) out (returns (mapAnswer surveyInTen (surveyIn buf)) out)
+  pub surveys : (buf out : List ℕ) → ReturnsBy (numbersOf survey) (refusalsIn survey buf) out (returns (mapAnswer surveyFlagged (surveyIn buf)) out)
+
+-- what stands in the eleven places of a survey, with pressures and without
+pub record SurveyPlaces : Type 0 where
+  pub present : (slots sum smallest largest mean : ℕ) (c : Counts)
+      → surveyFlagged (record { slots = slots; counts = c; sum = sum; pressures = Pressures.Present smallest largest mean })
+      ≡ c .blank ∷ c .read ∷ c .over ∷ c .under ∷ c .lost ∷ c .bad ∷ sum ∷ 1 ∷ smallest ∷ largest ∷ mean ∷ []
+  pub absent : (slots sum : ℕ) (c : Counts)
+      → surveyFlagged (record { slots = slots; counts = c; sum = sum; pressures = Pressures.Absent })
+      ≡ c .blank ∷ c .read ∷ c .over ∷ c .under ∷ c .lost ∷ c .bad ∷ sum ∷ 0 ∷ 0 ∷ 0 ∷ 0 ∷ []

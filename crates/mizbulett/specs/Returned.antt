@@ -28,10 +28,11 @@ returns (refused n) out = returned n out
 abbrev pub leaves : After (List ℕ) → Returned
 leaves a = returned (numberOf (a .answer)) (a .state)
 
--- a survey in ten values: the seventh is 1 where smallest, largest and mean are present, and 0, with three zeros behind it, where they are absent
+-- 1 where smallest, largest and mean are present, else 0
 abbrev pub presence : Pressures → ℕ
 presence Pressures.Absent = 0
 presence (Pressures.Present smallest largest mean) = 1
 
-abbrev pub surveyInTen : Survey → List ℕ
-surveyInTen s = countsValues (s .counts) ++ (s .sum ∷ presence (s .pressures) ∷ pressuresInThree (s .pressures))
+-- a survey in eleven values: that flag stands before the last three, which are 0 where it is 0
+abbrev pub surveyFlagged : Survey → List ℕ
+surveyFlagged s = countsValues (s .counts) ++ (s .sum ∷ presence (s .pressures) ∷ pressuresInThree (s .pressures))

@@ -9,7 +9,7 @@ ghost use Rattle.codes.specs.Answer.{mapAnswer};
 ghost use Rattle.trace.specs.Calls.{put, flip, mark, clear, read};
 ghost use Rattle.trace.specs.Trace.{onBytes, make, surveyIn};
 ghost use Rattle.trace.specs.Answers.{doneAnswer};
-ghost use Rattle.mizbulett.specs.Returned.{presence, numberOf, returned, returns, leaves, surveyInTen};
+ghost use Rattle.mizbulett.specs.Returned.{presence, numberOf, returned, returns, leaves, surveyFlagged};
 
 // 0 where a call is accepted, else the refusal's number.
 fn number(done: Done) -> u64
@@ -85,26 +85,38 @@ fn present(p: Pressures) -> u64
     }
 }
 
-// The values of a survey, with whether the last three are present before these.
-fn in_ten(s: Survey) -> [u64; 10]
-    ensures { λ r. ⌜ r ≡ surveyInTen s ⌝ }
+// The values of a survey, and before the last three a flag: 1 where they are present.
+fn flagged(s: Survey) -> [u64; 11]
+    ensures { λ r. ⌜ r ≡ surveyFlagged s ⌝ }
 {
     let v = s.values();
     let x = v.values;
     let pressures = s.pressures;
     let flag = present(pressures);
-    [x[0], x[1], x[2], x[3], x[4], x[5], flag, x[6], x[7], x[8]]
+    [
+        x[0],
+        x[1],
+        x[2],
+        x[3],
+        x[4],
+        x[5],
+        x[6],
+        flag,
+        x[7],
+        x[8],
+        x[9],
+    ]
 }
 
-// Counts the slots, and writes blank, read, over, lost, bad, sum, present, smallest, largest and mean. Refusals 7 and 8.
+// Counts the slots, and writes blank, read, over, under, lost, bad, sum, present, smallest, largest and mean. Refusals 7 and 8.
 #[no_mangle]
-pub extern "C" fn mizbulett_survey(buf: &[u8], out: &mut [u64; 10]) -> u64
-    ensures { λ r. ⌜ returned r (now (out .exit)) ≡ returns (mapAnswer surveyInTen (surveyIn (now (buf .entry)))) (now (out .entry)) ⌝ }
+pub extern "C" fn mizbulett_survey(buf: &[u8], out: &mut [u64; 11]) -> u64
+    ensures { λ r. ⌜ returned r (now (out .exit)) ≡ returns (mapAnswer surveyFlagged (surveyIn (now (buf .entry)))) (now (out .entry)) ⌝ }
 {
     match trace::survey(buf) {
         SurveyAnswer::Refused(r) => r.number(),
         SurveyAnswer::Surveyed(s) => {
-            *out = in_ten(s);
+            *out = flagged(s);
             0
         }
     }

@@ -22,8 +22,8 @@ numbersIn r = r .refusal ∷ r .count ∷ take (r .count) (r .values)
 -- these are the numbers of the answer a
 pub record NumbersOf (a : Answer (List ℕ)) (r : AnswerNumbers) : Type 0 where
   pub numbers : numbersIn r ≡ answerNumbers a
-  pub count : r .count ≤ 9
-  pub values : length (r .values) ≡ 9
+  pub count : r .count ≤ 10
+  pub values : length (r .values) ≡ 10
 
 -- the call that its numbers name
 abbrev pub callOf : CallNumbers → Call

@@ -15,7 +15,7 @@ ghost use Rattle.replay.specs.ContractsOfSteps.{numbersIn, NumbersOf, Wr
 pub(crate) struct AnswerNumbers {
     pub refusal: u64,
     pub count: usize,
-    pub values: [u64; 9],
+    pub values: [u64; 10],
 }
 
 // How many numbers were written, or that there was no room.
@@ -31,7 +31,7 @@ fn refused_numbers(r: Refusal) -> AnswerNumbers
     AnswerNumbers {
         refusal: r.number(),
         count: 0,
-        values: [0; 9],
+        values: [0; 10],
     }
 }
 
@@ -43,7 +43,7 @@ pub(crate) fn done_numbers(answer: Done) -> AnswerNumbers
         Done::Accepted => AnswerNumbers {
             refusal: 0,
             count: 0,
-            values: [0; 9],
+            values: [0; 10],
         },
         Done::Refused(r) => refused_numbers(r),
     }
@@ -59,7 +59,7 @@ pub(crate) fn read_numbers(answer: ReadAnswer) -> AnswerNumbers
             AnswerNumbers {
                 refusal: 0,
                 count: 4,
-                values: [x[0], x[1], x[2], x[3], 0, 0, 0, 0, 0],
+                values: [x[0], x[1], x[2], x[3], 0, 0, 0, 0, 0, 0],
             }
         }
         ReadAnswer::Refused(r) => refused_numbers(r),
@@ -92,7 +92,7 @@ pub(crate) fn survey_numbers(answer: SurveyAnswer) -> AnswerNumbers
 
 // Writes an answer to the front of a slice, where it has room.
 pub(crate) fn write_answer(out: &mut [u64], answer: AnswerNumbers) -> Written
-    requires { ⌜ (answer .count ≤ 9) × (length (answer .values) ≡ 9) ⌝ }
+    requires { ⌜ (answer .count ≤ 10) × (length (answer .values) ≡ 10) ⌝ }
     ensures { λ r. ⌜ Writes (numbersIn answer) (now (out .entry)) (now (out .exit)) r ⌝ }
 {
     let count = answer.count;

@@ -11,7 +11,7 @@
 //     mark 0 35          slot, position
 //     clear 2            slot
 //     read 0             slot: `ok` with step, reading, wrong, marks
-//     survey             `ok` with blank, read, over, lost, bad, sum, smallest, largest, mean; `-` for what is absent
+//     survey             `ok` with blank, read, over, under, lost, bad, sum, smallest, largest, mean; `-` for what is absent
 //     bytes              the lent bytes, in hexadecimal
 //
 // A call that is refused gets `refused` and its number. A line that can't be read, or that lends, opens or saves in vain, gets its number

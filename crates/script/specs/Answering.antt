@@ -15,7 +15,7 @@ pub record Answered : Type 0 where
 abbrev pub called : After (List ℕ) → Answered
 called a = record { line = answerLine (a .answer); bytes = a .state }
 
--- a survey and `bytes` change nothing; a survey's line has nine places
+-- a survey and `bytes` change nothing; a survey's line has ten places
 unfoldable pub answered : Call → List ℕ → Answered
 answered (Call.Make code slots) b = called (make (record { code = code; slots = slots }) b)
 answered (Call.Put slot step reading) b = called (onBytes (put slot step reading) b)

@@ -100,5 +100,5 @@ pub record CallsAnswer : Type 0 where
   pub clear : answered (Call.Clear 0) (exampleBytes (slotWith 5 8)) ≡ says "ok\n" (exampleBytes blankSlot)
   pub read : answered (Call.Read 0) exampleFile ≡ says "ok 74 2385 2 0\n" exampleFile
   pub blank : answered (Call.Read 1) exampleFile ≡ says "refused 11\n" exampleFile
-  pub survey : answered Call.Survey exampleFile ≡ says "ok 1 1 1 1 0 2385 2385 2385 2385\n" exampleFile
+  pub survey : answered Call.Survey exampleFile ≡ says "ok 1 1 1 0 1 0 2385 2385 2385 2385\n" exampleFile
   pub bytes : answered Call.Bytes (0x00 ∷ 0x2C ∷ 0xE4 ∷ 0xFF ∷ []) ≡ says "002CE4FF\n" (0x00 ∷ 0x2C ∷ 0xE4 ∷ 0xFF ∷ [])

@@ -6,5 +6,5 @@ pub use Rattle.trace.proofs.Strength.{demand3-shuts-out}
 pub use Rattle.trace.proofs.Makings.{makes}
 pub use Rattle.trace.proofs.LayoutExamples.{layout-example}
 pub use Rattle.trace.proofs.Readings.{reads-alone, survey-gives}
-pub use Rattle.trace.proofs.SurveyLaws.{survey-honest}
+pub use Rattle.trace.proofs.SurveyLaws.{survey-honest, survey-slots}
 pub use Rattle.trace.proofs.PlainCalls.{plain-calls, last-put}

@@ -4,7 +4,7 @@ use mathlib.Core.Path.{_≡_, refl}
 use mathlib.Core.List.{List, [], _∷_}
 use Rattle.trace.specs.Calls.{After, run}
 pub use Rattle.trace.proofs.Readings.{read-step, survey-step}
-pub use Rattle.trace.proofs.Statuses.{status-read, status-over, status-blank, status-lost, status-bad}
+pub use Rattle.trace.proofs.Statuses.{reading-cases, same-status}
 pub use Rattle.trace.proofs.SurveyLaws.{slots-few}
 
 module _ {C S : Type 0} (step : C → S → After S) (s : S) where

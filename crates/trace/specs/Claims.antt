@@ -1,5 +1,5 @@
--- What is claimed of a trace, in the words of the demands and of the scope, which docs/CLAIMS.md has in full. Each claim is a theorem of the same
--- name, in lower case, in proofs/.
+-- What is claimed of a trace, in the words of the demands, of the scope and of the requests, which docs/CLAIMS.md has in full. Each claim is a
+-- theorem of the same name, in lower case, in proofs/.
 use mathlib.Core.Path.{_≡_}
 use mathlib.Core.Bool.{true}
 use mathlib.Core.Logic.{_⊎_, _↔_}
@@ -18,6 +18,7 @@ use Rattle.codes.specs.declared.code.Code.{Code}
 use Rattle.codes.specs.Codes.{isCode, codeOf, projection, stepLimit}
 use Rattle.trace.specs.declared.answer.Reading.{Reading}
 use Rattle.trace.specs.declared.answer.Pressures.{Pressures}
+use Rattle.trace.specs.declared.answer.Survey.{Survey}
 use Rattle.trace.specs.declared.slot.Content.{Content}
 use Rattle.trace.specs.declared.status.Status.{Status}
 use Rattle.trace.specs.Layout.{neededFor, countIn, freeFor}
@@ -277,18 +278,29 @@ readsBelow b (suc n) = aloneIn b n ∷ readsBelow b n
 abbrev pub readsIn : List ℕ → List (Answer Reading)
 readsIn b = readsBelow b (countIn b)
 
--- the number of slots that have a status by what a read of each answers, and the pressures that these reads give
+-- the number of slots that have a status by what a read of each answers
 abbrev pub slotsIn : List ℕ → Status → ℕ
 slotsIn b s = count s (readsIn b)
 
+-- the number of slots of each status, in the order of the total line
+abbrev pub statusCountsIn : List ℕ → List ℕ
+statusCountsIn b =
+    slotsIn b Status.Blank ∷ slotsIn b Status.Read ∷ slotsIn b Status.Over ∷ slotsIn b Status.Under ∷ slotsIn b Status.Lost ∷ slotsIn b Status.Bad ∷ []
+
+-- the pressures that the reads give
 abbrev pub pressuresIn : List ℕ → List ℕ
 pressuresIn b = pressures (readsIn b)
 
--- what a slot's status says of the answer of its read: 'blank, read (0 to 4094), over (4095), lost (refusal 5) or bad (refusal 10)'
+-- 'the read status covers 1 to 4094'
+abbrev pub IsPressure : ℕ → Type 0
+IsPressure r = (1 ≤ r) × (r ≤ 4094)
+
+-- what a slot's status says of the answer of its read: 'over (4095), lost (refusal 5) or bad (refusal 10)'; '0 means under range'
 abbrev pub Means : Status → Answer Reading → Type 0
 Means Status.Blank a = a ≡ refused 11
-Means Status.Read a = (v : Reading) × (a ≡ accepted v) × (v .reading ≤ 4094)
+Means Status.Read a = (v : Reading) × (a ≡ accepted v) × IsPressure (v .reading)
 Means Status.Over a = (v : Reading) × (a ≡ accepted v) × (v .reading ≡ 4095)
+Means Status.Under a = (v : Reading) × (a ≡ accepted v) × (v .reading ≡ 0)
 Means Status.Lost a = a ≡ refused 5
 Means Status.Bad a = a ≡ refused 10
 
@@ -299,32 +311,39 @@ Extremes rs (Pressures.Present smallest largest mean) =
     (Among smallest rs × Among largest rs)
     × (((r : ℕ) → Among r rs → (smallest ≤ r) × (r ≤ largest)) × ((mean * length rs ≤ total rs) × (total rs < (mean + 1) * length rs)))
 
--- 'A survey never takes 4095 for a pressure', whatever the buffer holds
+-- 'A survey never takes 4095 for a pressure', nor 0, whatever the buffer holds
 pub record Honest (b vs : List ℕ) : Type 0 where
   -- each count is the number of slots of that status; sum, smallest, largest and mean are those of the pressures alone
-  pub values : vs
-      ≡ slotsIn b Status.Blank ∷ slotsIn b Status.Read ∷ slotsIn b Status.Over ∷ slotsIn b Status.Lost ∷ slotsIn b Status.Bad
-      ∷ total (pressuresIn b) ∷ pressuresValues (extremes (pressuresIn b))
+  pub values : vs ≡ statusCountsIn b ++ (total (pressuresIn b) ∷ pressuresValues (extremes (pressuresIn b)))
   -- a slot counts towards the status that its read's answer has, and towards no other
   pub means : (slot : ℕ) → slot < countIn b → Means (statusOf (aloneIn b slot)) (aloneIn b slot)
   pub counted : (s : Status) (slot : ℕ) → slot < countIn b → Means s (aloneIn b slot)
       → count s (readsBelow b (suc slot)) ≡ count s (readsBelow b slot) + 1
   pub uncounted : (s : Status) (slot : ℕ) → slot < countIn b → (Means s (aloneIn b slot) → ⊥)
       → count s (readsBelow b (suc slot)) ≡ count s (readsBelow b slot)
-  -- every slot is counted once
-  pub all : slotsIn b Status.Blank + slotsIn b Status.Read + slotsIn b Status.Over + slotsIn b Status.Lost + slotsIn b Status.Bad ≡ countIn b
+  -- every slot is counted once: the six counts add up to N
+  pub all : total (statusCountsIn b) ≡ countIn b
   -- as many are read as there are pressures
   pub as-many : slotsIn b Status.Read ≡ length (pressuresIn b)
-  -- a pressure is a reading of 0 to 4094 that a read of some slot gives
+  -- they are the readings of the slots that are read, each once
+  pub taken : (slot : ℕ) → slot < countIn b → (v : Reading) → aloneIn b slot ≡ accepted v → IsPressure (v .reading)
+      → pressures (readsBelow b (suc slot)) ≡ v .reading ∷ pressures (readsBelow b slot)
+  pub untaken : (slot : ℕ) → slot < countIn b → (Means Status.Read (aloneIn b slot) → ⊥)
+      → pressures (readsBelow b (suc slot)) ≡ pressures (readsBelow b slot)
+  -- a pressure is a reading of 1 to 4094 that a read of some slot gives
   pub pressures : (r : ℕ) → Among r (pressuresIn b)
-      → (r ≤ 4094) × ((slot : ℕ) × (slot < countIn b) × ((v : Reading) × (onBytes (read slot) b .answer ≡ accepted (readingValues v)) × (v .reading ≡ r)))
-  -- smallest, largest and mean are those of the pressures, none of them 4095, and absent exactly where nothing is read
+      → IsPressure r × ((slot : ℕ) × (slot < countIn b) × ((v : Reading) × (onBytes (read slot) b .answer ≡ accepted (readingValues v)) × (v .reading ≡ r)))
+  -- smallest, largest and mean are those of the pressures, none of them 0 or 4095, and absent exactly where nothing is read
   pub extreme : Extremes (pressuresIn b) (extremes (pressuresIn b))
-  pub at-most : (r : ℕ) → Among r (pressuresValues (extremes (pressuresIn b))) → r ≤ 4094
+  pub in-range : (r : ℕ) → Among r (pressuresValues (extremes (pressuresIn b))) → IsPressure r
   pub absent : pressuresValues (extremes (pressuresIn b)) ≡ [] ↔ slotsIn b Status.Read ≡ 0
 
 abbrev pub SurveyHonest : Type 0
 SurveyHonest = (b vs : List ℕ) → onBytes survey b .answer ≡ accepted vs → Honest b vs
+
+-- the number of slots that a survey has, which a listing takes for N, is the trailer's
+abbrev pub SurveySlots : Type 0
+SurveySlots = (b : List ℕ) (s : Survey) → surveyIn b ≡ accepted s → s .slots ≡ countIn b
 
 -- ---- demand 2
 
@@ -340,5 +359,5 @@ pub record Demand2 : Type 0 where
   pub eight-is-far : EightIsFar
   pub corrects-near : CorrectsNear
   pub refuses-far : RefusesFar
-  -- 'A survey never takes 4095 for a pressure'
+  -- 'A survey never takes 4095 for a pressure', nor 0
   pub survey-honest : SurveyHonest

@@ -156,6 +156,7 @@ countedIn c s =
       blank = cond (is Status.Blank s) (c .blank + 1) (c .blank);
       read = cond (is Status.Read s) (c .read + 1) (c .read);
       over = cond (is Status.Over s) (c .over + 1) (c .over);
+      under = cond (is Status.Under s) (c .under + 1) (c .under);
       lost = cond (is Status.Lost s) (c .lost + 1) (c .lost);
       bad = cond (is Status.Bad s) (c .bad + 1) (c .bad);
     }
@@ -165,6 +166,7 @@ pub record Few (c : Counts) : Type 0 where
   pub blank : c .blank < 2 ^ 32
   pub read : c .read < 2 ^ 32
   pub over : c .over < 2 ^ 32
+  pub under : c .under < 2 ^ 32
   pub lost : c .lost < 2 ^ 32
   pub bad : c .bad < 2 ^ 32
 

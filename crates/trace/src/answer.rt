@@ -2,7 +2,7 @@
 ghost use mathlib.Core.Path.{_≡_};
 ghost use Prim.Native.Nat.{_≤_};
 ghost use lib.ListN.{length};
-ghost use Rattle.trace.specs.Answers.{refusalNumber, readingValues, countsValues, pressuresValues, pressuresInThree, surveyInNine};
+ghost use Rattle.trace.specs.Answers.{refusalNumber, readingValues, countsValues, pressuresValues, pressuresInThree, surveyPadded};
 
 // Why a call is refused: as a word call is, or for a reason of the trace's own.
 pub enum Refusal {
@@ -70,20 +70,28 @@ pub struct Counts {
     pub blank: u64,
     pub read: u64,
     pub over: u64,
+    pub under: u64,
     pub lost: u64,
     pub bad: u64,
 }
 
 impl Counts {
-    // Blank, read, over, lost, bad.
-    pub fn values(self) -> [u64; 5]
+    // Blank, read, over, under, lost, bad.
+    pub fn values(self) -> [u64; 6]
         ensures { λ r. ⌜ r ≡ countsValues self ⌝ }
     {
-        [self.blank, self.read, self.over, self.lost, self.bad]
+        [
+            self.blank,
+            self.read,
+            self.over,
+            self.under,
+            self.lost,
+            self.bad,
+        ]
     }
 }
 
-// Smallest, largest and mean of the readings 0 to 4094; absent where there are none.
+// Smallest, largest and mean of the readings 1 to 4094; absent where there are none.
 pub enum Pressures {
     Absent,
     Present(u64, u64, u64),
@@ -111,7 +119,7 @@ impl Pressures {
     }
 }
 
-// The number of slots and their counts; the sum of the readings 0 to 4094, and more of them.
+// The number of slots and their counts; the sum of the readings 1 to 4094, and more of them.
 pub struct Survey {
     pub slots: u64,
     pub counts: Counts,
@@ -122,21 +130,22 @@ pub struct Survey {
 // A survey's values: how many there are, and as many; 0 past the last.
 pub struct SurveyValues {
     pub count: usize,
-    pub values: [u64; 9],
+    pub values: [u64; 10],
 }
 
 impl Survey {
     // The counts and the sum, then smallest, largest and mean where they are present.
     pub fn values(self) -> SurveyValues
-        ensures { λ r. ⌜ r ≡ surveyInNine self ⌝ }
+        ensures { λ r. ⌜ r ≡ surveyPadded self ⌝ }
     {
         let counts = self.counts;
         let c = counts.values();
         let pressures = self.pressures;
         let p = pressures.in_three();
+        let sum = self.sum;
         SurveyValues {
-            count: 6 + pressures.count(),
-            values: [c[0], c[1], c[2], c[3], c[4], self.sum, p[0], p[1], p[2]],
+            count: 7 + pressures.count(),
+            values: [c[0], c[1], c[2], c[3], c[4], c[5], sum, p[0], p[1], p[2]],
         }
     }
 }

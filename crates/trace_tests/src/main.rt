@@ -309,15 +309,16 @@ fn put_and_survey(buffer: [u8; 64], slot: u64, step: u64, reading: u64) -> [u8; 
     b
 }
 
-// Surveys: nothing read; 0, 4094 and 4095; a mean that rounds down; lost and bad slots.
+// Surveys: nothing read; 4095, 0, 4094 and 1; a mean that rounds down; a mended 0; lost and bad slots.
 fn surveys() {
     let b = make([0u8; 64], 64, 3, 5);
     survey(b, 64);
     let over = put_and_survey(b, 0, 1, 4095);
-    let low = put_and_survey(over, 1, 1, 0);
-    let high = put_and_survey(low, 2, 1023, 4094);
+    let under = put_and_survey(over, 1, 1, 0);
+    let high = put_and_survey(under, 2, 1023, 4094);
     let odd = put_and_survey(high, 3, 5, 1);
     let two = flip(flip(odd, 64, 1, 0), 64, 1, 1);
+    survey(two, 64);
     let lost = flip(flip(two, 64, 1, 2), 64, 1, 3);
     survey(lost, 64);
     survey_with(lost, 23, 7);

@@ -48,7 +48,7 @@ pub(crate) fn show_read(answer: ReadAnswer) {
     }
 }
 
-// The values of a survey: six, or nine where smallest, largest and mean are present.
+// The values of a survey: seven, or ten where smallest, largest and mean are present.
 fn show_values(survey: Survey) {
     let answered = survey.values();
     let count = answered.count;
@@ -56,16 +56,17 @@ fn show_values(survey: Survey) {
     named(b": blank ", v[0]);
     named(b", read ", v[1]);
     named(b", over ", v[2]);
-    named(b", lost ", v[3]);
-    named(b", bad ", v[4]);
-    named(b", sum ", v[5]);
-    if count < 9 {
+    named(b", under ", v[3]);
+    named(b", lost ", v[4]);
+    named(b", bad ", v[5]);
+    named(b", sum ", v[6]);
+    if count < 10 {
         text(b", no pressures");
         return;
     }
-    named(b", smallest ", v[6]);
-    named(b", largest ", v[7]);
-    named(b", mean ", v[8]);
+    named(b", smallest ", v[7]);
+    named(b", largest ", v[8]);
+    named(b", mean ", v[9]);
 }
 
 // What a survey answers.

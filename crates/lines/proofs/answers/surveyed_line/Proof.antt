@@ -11,7 +11,7 @@ use Rattle.lines.proofs.answers.surveyed_line.Tie as tie
 
 -- where the values are known: as many as are counted, and few
 few : (c : tie.After-values) → (c .values .result .count ≡ length (take (c .values .result .count) (c .values .result .values)))
-    × (c .values .result .count ≤ 9)
+    × (c .values .result .count ≤ 10)
 few c = given-few (c .before .before .args .survey) (c .values .result) (c .values .ensures)
 
 values-requires : tie.Need-values-requires

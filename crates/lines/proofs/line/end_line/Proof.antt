@@ -59,6 +59,17 @@ write-line-requires-5 c κs =
     let start = c .before .before .before .before .before .before in
     omega (arith, rw (c .before .before .enum-told5 .given .1) at (start .pre))
 
+enum-told-6 : tie.Need-enum-told-6
+enum-told-6 c = search needs
+
+slice-aggregate-write-line-6 : tie.Need-slice-aggregate-write-line-6
+slice-aggregate-write-line-6 c = search needs
+
+write-line-requires-6 : tie.Need-write-line-requires-6
+write-line-requires-6 c κs =
+    let start = c .before .before .before .before .before .before in
+    omega (arith, rw (c .before .before .enum-told6 .given .1) at (start .pre))
+
 same-length : tie.Need-same-length
 same-length c = search needs
 
@@ -89,6 +100,12 @@ same-length-5 c = search needs
 returns-5 : tie.Need-returns-5
 returns-5 c = rw (c .before .before .before .before .before .enum-told5 .given .1) (c .before .before .write-line5 .ensures)
 
+same-length-6 : tie.Need-same-length-6
+same-length-6 c = search needs
+
+returns-6 : tie.Need-returns-6
+returns-6 c = rw (c .before .before .before .before .before .enum-told6 .given .1) (c .before .before .write-line6 .ensures)
+
 pub end-line-spec : {M : Type 1} → statement M
 end-line-spec =
     tie.close
@@ -108,6 +125,9 @@ end-line-spec =
     enum-told-5
     slice-aggregate-write-line-5
     write-line-requires-5
+    enum-told-6
+    slice-aggregate-write-line-6
+    write-line-requires-6
     same-length
     returns
     same-length-2
@@ -117,4 +137,6 @@ end-line-spec =
     same-length-4
     returns-4
     same-length-5
-    returns-5)
+    returns-5
+    same-length-6
+    returns-6)

@@ -1,8 +1,8 @@
--- `lines::line::end_slot` meets its contract: a refused read has no values, a reading that isn't read is over.
+-- `lines::line::end_slot` meets its contract: a refused read has no values, and one that is no pressure has three.
 use mathlib.Core.Path.{sym, _∙_}
 use native.Mathlib.Omega.{arith}
 use Rattle.lines.proofs.Texts.{written-as}
-use Rattle.lines.proofs.Lines.{word-short, ending-refused, ending-read, ending-over}
+use Rattle.lines.proofs.Lines.{word-short, ending-refused, ending-read, ending-unread}
 use borrow.Author.Needs.{needs}
 use Rattle.lines.proofs.line.end_slot.Statement.{statement}
 use Rattle.lines.proofs.line.end_slot.Tie as tie
@@ -82,9 +82,9 @@ returns-3 c =
     let test = c .before .before .before .before .before in
     let answer = test .before .before .before .answer .given in
     let status = test .before .before .before .before .before .status in
-    let over = ending-over (answer .0 .0) (status .result) (rw (answer .1) at (status .ensures)) (sym (test .before .is-read .ensures) ∙ test .if1 .left) in
+    let unread = ending-unread (answer .0 .0) (status .result) (rw (answer .1) at (status .ensures)) (sym (test .before .is-read .ensures) ∙ test .if1 .left) in
     let w = c .before .before .end-line3 .ensures in
-    (rw (answer .1) (written-as over (w .0)), omega (arith, w .1, word-short (status .result)))
+    (rw (answer .1) (written-as unread (w .0)), omega (arith, w .1, word-short (status .result)))
 
 pub end-slot-spec : {M : Type 1} → statement M
 end-slot-spec =

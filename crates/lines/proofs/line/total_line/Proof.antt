@@ -23,6 +23,9 @@ array-read-t20 c = search needs
 array-read-t23 : tie.Need-array-read-t23
 array-read-t23 c = search needs
 
+array-read-t26 : tie.Need-array-read-t26
+array-read-t26 c = search needs
+
 slice-aggregate-write-line : tie.Need-slice-aggregate-write-line
 slice-aggregate-write-line c = search needs
 
@@ -51,6 +54,7 @@ total-line-spec =
     array-read-t17
     array-read-t20
     array-read-t23
+    array-read-t26
     slice-aggregate-write-line
     slice-aggregate-write-line-2
     write-line-requires

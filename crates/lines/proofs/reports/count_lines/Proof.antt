@@ -1,4 +1,4 @@
--- `lines::reports::count_lines` meets its contract: its six lines stand one after the other.
+-- `lines::reports::count_lines` meets its contract: its seven lines stand one after the other.
 use mathlib.Core.List.{[]}
 use native.Mathlib.Omega.{arith}
 use Rattle.lines.specs.Text.{text}
@@ -32,6 +32,9 @@ status-line-requires-4 c κs = search needs
 status-line-requires-5 : tie.Need-status-line-requires-5
 status-line-requires-5 c κs = search needs
 
+status-line-requires-6 : tie.Need-status-line-requires-6
+status-line-requires-6 c κs = search needs
+
 same-length : tie.Need-same-length
 same-length c = search needs
 
@@ -40,11 +43,12 @@ returns c =
     let blank = c .before .before in
     let bad = blank .before .before .before .before in
     let lost = bad .before .before .before .before in
-    let over = lost .before .before .before .before in
+    let under = lost .before .before .before .before in
+    let over = under .before .before .before .before in
     let read = over .before .before .before .before in
     let slots = read .before .before .before .before in
-    let last = written-then (bad .status-line4 .ensures .0) (blank .status-line5 .ensures .0) in
-    let later = written-then (over .status-line2 .ensures .0) (written-then (lost .status-line3 .ensures .0) last) in
+    let last = written-then (lost .status-line4 .ensures .0) (written-then (bad .status-line5 .ensures .0) (blank .status-line6 .ensures .0)) in
+    let later = written-then (over .status-line2 .ensures .0) (written-then (under .status-line3 .ensures .0) last) in
     let first = reportLine (text "slots") (slots .before .before .before .before .before .args .slots) [] in
     (written-then {s = first} (slots .report-line .ensures .0) (written-then (read .status-line .ensures .0) later), omega arith)
 
@@ -60,5 +64,6 @@ count-lines-spec =
     status-line-requires-3
     status-line-requires-4
     status-line-requires-5
+    status-line-requires-6
     same-length
     returns)

@@ -65,6 +65,18 @@ slice-aggregate-report-line-10 c = search needs
 report-line-requires-5 : tie.Need-report-line-requires-5
 report-line-requires-5 c κs = search needs
 
+enum-told-6 : tie.Need-enum-told-6
+enum-told-6 c = search needs
+
+slice-aggregate-report-line-11 : tie.Need-slice-aggregate-report-line-11
+slice-aggregate-report-line-11 c = search needs
+
+slice-aggregate-report-line-12 : tie.Need-slice-aggregate-report-line-12
+slice-aggregate-report-line-12 c = search needs
+
+report-line-requires-6 : tie.Need-report-line-requires-6
+report-line-requires-6 c κs = search needs
+
 same-length : tie.Need-same-length
 same-length c = search needs
 
@@ -110,6 +122,15 @@ returns-5 c =
     let w = c .before .before .report-line5 .ensures in
     rw (c .before .before .before .before .before .before .enum-told5 .given .1) (w .0, omega (arith, w .1))
 
+same-length-6 : tie.Need-same-length-6
+same-length-6 c = search needs
+
+returns-6 : tie.Need-returns-6
+unfolding statusLine
+returns-6 c =
+    let w = c .before .before .report-line6 .ensures in
+    rw (c .before .before .before .before .before .before .enum-told6 .given .1) (w .0, omega (arith, w .1))
+
 pub status-line-spec : {M : Type 1} → statement M
 status-line-spec =
     tie.close
@@ -134,6 +155,10 @@ status-line-spec =
     slice-aggregate-report-line-9
     slice-aggregate-report-line-10
     report-line-requires-5
+    enum-told-6
+    slice-aggregate-report-line-11
+    slice-aggregate-report-line-12
+    report-line-requires-6
     same-length
     returns
     same-length-2
@@ -143,4 +168,6 @@ status-line-spec =
     same-length-4
     returns-4
     same-length-5
-    returns-5)
+    returns-5
+    same-length-6
+    returns-6)

@@ -1,4 +1,4 @@
--- `replay::answers::surveyed_numbers` meets its contract: of the nine values as many as there are, with smallest, largest and mean absent or present.
+-- `replay::answers::surveyed_numbers` meets its contract: of the ten values as many as there are, with smallest, largest and mean absent or present.
 use mathlib.Core.Path.{_≡_, refl}
 use native.Mathlib.Omega.{arith}
 use Prim.Native.Nat.{_≤_}

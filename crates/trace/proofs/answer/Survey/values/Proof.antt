@@ -6,21 +6,21 @@ use lib.ListN.{length, getD}
 use Rattle.trace.specs.declared.answer.Counts.{Counts}
 use Rattle.trace.specs.declared.answer.Pressures.{Pressures}
 use Rattle.trace.specs.declared.answer.SurveyValues.{SurveyValues}
-use Rattle.trace.specs.Answers.{countsValues, pressuresValues, pressuresInThree, surveyInNine}
+use Rattle.trace.specs.Answers.{countsValues, pressuresValues, pressuresInThree, surveyPadded}
 use borrow.Author.Needs.{needs}
 use Rattle.trace.proofs.answer.Survey.values.Statement.{statement}
 use Rattle.trace.proofs.answer.Survey.values.Tie as tie
 
-in-nine : (slots sum : ℕ) (c : Counts) (p : Pressures)
+padded : (slots sum : ℕ) (c : Counts) (p : Pressures)
     → _≡_ {A = SurveyValues} (record {
-      count = 6 + length (pressuresValues p);
+      count = 7 + length (pressuresValues p);
       values =
           countsValues c
           ++ (sum ∷ getD (pressuresInThree p) 0 0 ∷ getD (pressuresInThree p) 1 0 ∷ getD (pressuresInThree p) 2 0 ∷ []);
     })
-    (surveyInNine (record { slots = slots; counts = c; sum = sum; pressures = p }))
-in-nine slots sum c Pressures.Absent = refl
-in-nine slots sum c (Pressures.Present smallest largest mean) = refl
+    (surveyPadded (record { slots = slots; counts = c; sum = sum; pressures = p }))
+padded slots sum c Pressures.Absent = refl
+padded slots sum c (Pressures.Present smallest largest mean) = refl
 
 values-requires : tie.Need-values-requires
 values-requires c κs = search needs
@@ -31,37 +31,40 @@ in-three-requires c κs = search needs
 count-requires : tie.Need-count-requires
 count-requires c κs = search needs
 
-add-t9 : tie.Need-add-t9
-add-t9 c = search needs
+add-t10 : tie.Need-add-t10
+add-t10 c = search needs
 
-array-read-t12 : tie.Need-array-read-t12
-array-read-t12 c = search needs
+array-read-t13 : tie.Need-array-read-t13
+array-read-t13 c = search needs
 
-array-read-t15 : tie.Need-array-read-t15
-array-read-t15 c = search needs
+array-read-t16 : tie.Need-array-read-t16
+array-read-t16 c = search needs
 
-array-read-t18 : tie.Need-array-read-t18
-array-read-t18 c = search needs
+array-read-t19 : tie.Need-array-read-t19
+array-read-t19 c = search needs
 
-array-read-t21 : tie.Need-array-read-t21
-array-read-t21 c = search needs
+array-read-t22 : tie.Need-array-read-t22
+array-read-t22 c = search needs
 
-array-read-t24 : tie.Need-array-read-t24
-array-read-t24 c = search needs
+array-read-t25 : tie.Need-array-read-t25
+array-read-t25 c = search needs
 
-array-read-t27 : tie.Need-array-read-t27
-array-read-t27 c = search needs
+array-read-t28 : tie.Need-array-read-t28
+array-read-t28 c = search needs
 
-array-read-t30 : tie.Need-array-read-t30
-array-read-t30 c = search needs
+array-read-t31 : tie.Need-array-read-t31
+array-read-t31 c = search needs
 
-array-read-t33 : tie.Need-array-read-t33
-array-read-t33 c = search needs
+array-read-t34 : tie.Need-array-read-t34
+array-read-t34 c = search needs
+
+array-read-t37 : tie.Need-array-read-t37
+array-read-t37 c = search needs
 
 returns : tie.Need-returns
 returns c =
     let s = c .before .before .before .before .args .self in
-    rw (c .count .ensures .0, c .before .in-three .ensures, c .before .before .values .ensures) (in-nine (s .slots) (s .sum) (s .counts) (s .pressures))
+    rw (c .count .ensures .0, c .before .in-three .ensures, c .before .before .values .ensures) (padded (s .slots) (s .sum) (s .counts) (s .pressures))
 
 pub values-spec : {M : Type 1} → statement M
 values-spec =
@@ -70,13 +73,14 @@ values-spec =
     values-requires
     in-three-requires
     count-requires
-    add-t9
-    array-read-t12
-    array-read-t15
-    array-read-t18
-    array-read-t21
-    array-read-t24
-    array-read-t27
-    array-read-t30
-    array-read-t33
+    add-t10
+    array-read-t13
+    array-read-t16
+    array-read-t19
+    array-read-t22
+    array-read-t25
+    array-read-t28
+    array-read-t31
+    array-read-t34
+    array-read-t37
     returns)

@@ -1,4 +1,4 @@
--- `mizbulett::trace_calls::in_ten` meets its contract: the pressures are absent or present, and their three places are whole in either case.
+-- `mizbulett::trace_calls::flagged` meets its contract: the pressures are absent or present, and their three places are whole in either case.
 use Prim.Native.Nat.{ℕ}
 use mathlib.Core.Path.{_≡_, refl}
 use mathlib.Core.List.{[], _∷_, _++_}
@@ -6,17 +6,17 @@ use lib.ListN.{getD}
 use Rattle.trace.specs.declared.answer.Counts.{Counts}
 use Rattle.trace.specs.declared.answer.Pressures.{Pressures}
 use Rattle.trace.specs.Answers.{countsValues, pressuresInThree}
-use Rattle.mizbulett.specs.Returned.{presence, surveyInTen}
+use Rattle.mizbulett.specs.Returned.{presence, surveyFlagged}
 use borrow.Author.Needs.{needs}
-use Rattle.mizbulett.proofs.trace_calls.in_ten.Statement.{statement}
-use Rattle.mizbulett.proofs.trace_calls.in_ten.Tie as tie
+use Rattle.mizbulett.proofs.trace_calls.flagged.Statement.{statement}
+use Rattle.mizbulett.proofs.trace_calls.flagged.Tie as tie
 
-in-ten : (slots sum : ℕ) (c : Counts) (p : Pressures)
+flagged : (slots sum : ℕ) (c : Counts) (p : Pressures)
     → countsValues c
     ++ (sum ∷ presence p ∷ getD (pressuresInThree p) 0 0 ∷ getD (pressuresInThree p) 1 0 ∷ getD (pressuresInThree p) 2 0 ∷ [])
-    ≡ surveyInTen (record { slots = slots; counts = c; sum = sum; pressures = p })
-in-ten slots sum c Pressures.Absent = refl
-in-ten slots sum c (Pressures.Present smallest largest mean) = refl
+    ≡ surveyFlagged (record { slots = slots; counts = c; sum = sum; pressures = p })
+flagged slots sum c Pressures.Absent = refl
+flagged slots sum c (Pressures.Present smallest largest mean) = refl
 
 values-requires : tie.Need-values-requires
 values-requires c κs = search needs
@@ -51,13 +51,16 @@ array-read-t29 c = search needs
 array-read-t32 : tie.Need-array-read-t32
 array-read-t32 c = search needs
 
+array-read-t35 : tie.Need-array-read-t35
+array-read-t35 c = search needs
+
 returns : tie.Need-returns
 returns c =
     let s = c .before .before .before .args .s in
-    rw (c .present .ensures, c .before .before .values .ensures) (in-ten (s .slots) (s .sum) (s .counts) (s .pressures))
+    rw (c .present .ensures, c .before .before .values .ensures) (flagged (s .slots) (s .sum) (s .counts) (s .pressures))
 
-pub in-ten-spec : {M : Type 1} → statement M
-in-ten-spec =
+pub flagged-spec : {M : Type 1} → statement M
+flagged-spec =
     tie.close
     (tie.spec
     values-requires
@@ -71,4 +74,5 @@ in-ten-spec =
     array-read-t26
     array-read-t29
     array-read-t32
+    array-read-t35
     returns)
