@@ -1,6 +1,6 @@
--- Texts of files that are given byte for byte, from the bytes to the text: listings and reports of the scope's, of refused ones and of one with
--- a bad slot, a listing of one whose slot is under, and the lines of calls on them; and the lines of what can't be played. Trailer, slots, survey
--- and lines are computed by their definitions. Mending is a search through all codewords, and the codes' claims give what it finds. In the scope's
+-- Texts of files that are given byte for byte, from the bytes to the text: listings and reports of the scope's, of refused ones, of one whose
+-- slot is under and of one whose slot is bad, and the lines of calls on them; and the lines of what can't be played. Trailer, slots, survey and
+-- lines are computed by their definitions. Mending is a search through all codewords, and the codes' claims give what it finds. In the scope's
 -- file slot 0 is two positions from the codeword of 74·4096 + 2385, slot 3 is the codeword of 4095, and slot 2 is that one with the four bits of a
 -- column inverted, so that its sum is 8 and no codeword is near. The word 0 is the codeword of message 0.
 use mathlib.Core.Path.{_≡_, refl, ap}
@@ -90,9 +90,17 @@ example-report = rw example-survey
 
 pub other-reports : OtherReports
 unfolding
-    badFile part numberFrom placeFrom isFit isBad contentWith viewIn readContent surveyIn surveyOf answersOf count statusOf
+    underFile badFile part numberFrom placeFrom isFit isBad contentWith viewIn readContent readCorrected surveyIn surveyOf answersOf count statusOf
     pressures extremes surveyFile report statusLine noted each decimal digits
-other-reports = record { long = λ file h. rw (lt-ltb 65536 (length file) h); none = refl; zeros = refl; bad = refl; numbers = refl }
+other-reports =
+    record {
+      long = λ file h. rw (lt-ltb 65536 (length file) h);
+      none = refl;
+      zeros = refl;
+      under = rw slot-under;
+      bad = refl;
+      numbers = refl;
+    }
 
 pub answer-lines : AnswerLines
 unfolding

@@ -80,11 +80,14 @@ manyNumbers =
       pressures = Pressures.Present 1310 1409 1352;
     }
 
--- refused files, one without a pressure, and that survey
+-- refused files, two without a pressure, and that survey
 pub record OtherReports : Type 0 where
   pub long : (file : List ℕ) → 65536 < length file → report file ≡ text "refused 7: the file has fewer than 8 bytes, or more than 65536\n"
   pub none : report [] ≡ text "refused 7: the file has fewer than 8 bytes, or more than 65536\n"
   pub zeros : report (replicate 8 0) ≡ text "refused 8: the file does not end with the trailer of a trace that fits in it\n"
+  pub under :
+      report underFile
+      ≡ text "no pressure: nothing to set a limit from\n" ++ countLines 1 (record { blank = 0; read = 0; over = 0; under = 1; lost = 0; bad = 0 })
   pub bad :
       report badFile
       ≡ text "no pressure: nothing to set a limit from\n" ++ countLines 1 (record { blank = 0; read = 0; over = 0; under = 0; lost = 0; bad = 1 })
