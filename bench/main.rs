@@ -7,9 +7,10 @@ mod library;
 mod trace;
 
 use codes::{Code, Correction};
+use std::collections::BTreeMap;
 use std::hint::black_box;
 use std::time::Instant;
-use trace::{Answer, Call, Trace};
+use trace::{Answer, Call, Trace, SLOT};
 
 /// A fixed generator (SplitMix64).
 struct Random(u64);
@@ -36,6 +37,49 @@ impl Random {
             4 => 4096,
             _ => self.below(4096),
         }
+    }
+
+    /// A seed: what the last load handed back, one at either end, a power of 2, or any.
+    fn seed(&mut self, handed_back: u32) -> u32 {
+        match self.below(8) {
+            0..3 => handed_back,
+            3 => 0,
+            4 => u32::MAX,
+            5 => 1 << self.below(32),
+            _ => self.next() as u32,
+        }
+    }
+
+    /// A load's count: 1 to 4, or one time in two 0, any below the width, the width, one more, 1 to 4 with a high bit, or nearly 2 to the power 64.
+    fn count(&mut self, width: u64) -> u64 {
+        let few = 1 + self.below(4);
+        match self.below(12) {
+            0 => 0,
+            1 => self.below(width),
+            2 => width,
+            3 => width + 1,
+            4 => few | 1 << (6 + self.below(58)),
+            5 => u64::MAX - self.below(2),
+            _ => few,
+        }
+    }
+
+    /// A slot's bytes that no call writes: another state, a blank slot that is not all zero, or at 36 bits an unused bit of word or marks.
+    fn bad_slot(&mut self, code: &Code) -> [u8; SLOT] {
+        let mut bytes = [0; SLOT].map(|_: u8| self.next() as u8);
+        let kinds = if code.width() == 36 { 3 } else { 2 };
+        match self.below(kinds) {
+            0 => bytes[0] |= 2,
+            1 => {
+                bytes[0] = 0;
+                bytes[1 + self.below(10) as usize] |= 1 << self.below(8);
+            }
+            _ => {
+                bytes[0] = 1;
+                bytes[1 + 5 * self.below(2) as usize] |= 16 << self.below(4);
+            }
+        }
+        bytes
     }
 
     /// A word with `count` ones outside `taken`.
@@ -109,15 +153,16 @@ fn compare_search(number: u64, code: &Code, random: &mut Random) {
     }
 }
 
-fn random_call(random: &mut Random, code: &Code, slots: u64) -> Call {
+fn random_call(random: &mut Random, code: &Code, slots: u64, handed_back: u32) -> Call {
     let slot = random.below(slots + 1);
     let position = random.below(code.width() as u64 + 1);
-    match random.below(12) {
+    match random.below(14) {
         0 | 1 => Call::Put { slot, step: random.below((1 << (code.message_bits() - 12)) + 1), reading: random.reading() },
         2..=5 => Call::Flip { slot, position },
         6 | 7 => Call::Mark { slot, position },
         8 if random.below(3) == 0 => Call::Clear { slot },
         9 => Call::Survey,
+        10 | 11 => Call::Load { slot, seed: random.seed(handed_back), count: random.count(code.width() as u64) },
         _ => Call::Read { slot },
     }
 }
@@ -127,6 +172,7 @@ fn run(b: &mut [u8], call: Call) -> Answer {
         Call::Put { slot, step, reading } => library::put(b, slot, step, reading).map(|_| vec![]),
         Call::Flip { slot, position } => library::flip(b, slot, position).map(|_| vec![]),
         Call::Mark { slot, position } => library::mark(b, slot, position).map(|_| vec![]),
+        Call::Load { slot, seed, count } => library::load(b, slot, seed, count).map(|number| vec![number as u64]),
         Call::Clear { slot } => library::clear(b, slot).map(|_| vec![]),
         Call::Read { slot } => library::read(b, slot).map(|v| v.to_vec()),
         Call::Survey => library::survey(b).map(|s| {
@@ -137,18 +183,48 @@ fn run(b: &mut [u8], call: Call) -> Answer {
     }
 }
 
-/// A random list of trace calls: each answer, and the bytes at the end.
-fn compare_list(number: u64, code: &Code, random: &mut Random) {
+/// How many loads were accepted (0), or refused with a number.
+type Loads = BTreeMap<u64, u64>;
+
+/// A call of both. Gives the number that a load handed back.
+fn compare_call(call: Call, library: Answer, plain: Answer, loads: &mut Loads) -> Option<u32> {
+    expect(&format!("{call:?}"), &library, &plain);
+    let Call::Load { .. } = call else { return None };
+    *loads.entry(plain.as_ref().err().copied().unwrap_or(0)).or_default() += 1;
+    plain.ok().map(|values| values[0] as u32)
+}
+
+/// A random list of trace calls, between which slots are spoilt: each answer, and the bytes at the end. Then a call on too few bytes, and one on
+/// an unfit trailer.
+fn compare_list(number: u64, code: &Code, random: &mut Random, loads: &mut Loads) {
     let slots = 1 + random.below(3);
     let len = library::size(slots) as u64 + random.below(20);
     let mut buffer: Vec<u8> = (0..len).map(|_| random.next() as u8).collect();
     let mut plain = Trace::new(code, number, slots as usize, &buffer);
     expect("making", library::make(&mut buffer, number, slots), Ok(()));
+    let mut handed_back = 0;
     for _ in 0..random.below(60) {
-        let call = random_call(random, code, slots);
-        expect(&format!("{call:?}"), run(&mut buffer, call), plain.run(call));
+        if random.below(40) == 0 {
+            let (slot, bytes) = (random.below(slots), random.bad_slot(code));
+            let place = buffer.len() - library::size(slots - slot);
+            buffer[place..place + SLOT].copy_from_slice(&bytes);
+            plain.spoil(slot, bytes);
+        }
+        let call = random_call(random, code, slots, handed_back);
+        handed_back = compare_call(call, run(&mut buffer, call), plain.run(call), loads).unwrap_or(handed_back);
     }
-    expect("the bytes after a list", buffer, plain.bytes());
+    expect("the bytes after a list", &buffer, &plain.bytes());
+
+    let short = buffer[..random.below(8) as usize].to_vec();
+    // Bit 3 inverted makes a trailer unfit, in whichever byte.
+    let place = buffer.len() - 1 - random.below(8) as usize;
+    buffer[place] ^= random.next() as u8 | 8;
+    for (refusal, found) in [(7, short), (8, buffer)] {
+        let mut left = found.clone();
+        let call = random_call(random, code, slots, handed_back);
+        compare_call(call, run(&mut left, call), Err(refusal), loads);
+        expect("the bytes after a call without a trace", left, found);
+    }
 }
 
 /// Nanoseconds for one of `count` calls.
@@ -158,6 +234,11 @@ fn nanoseconds<T>(count: usize, mut call: impl FnMut(usize) -> T) -> f64 {
         black_box(call(i));
     }
     start.elapsed().as_nanos() as f64 / count as f64
+}
+
+/// A row of the measurement: nanoseconds of both, and their ratio.
+fn print_row(number: u64, call: &str, library: f64, plain: f64) {
+    println!("{number}     {call:8} {library:10.0} {plain:10.0} {:8.2}", library / plain);
 }
 
 fn measure(number: u64, code: &Code, random: &mut Random) {
@@ -180,10 +261,31 @@ fn measure(number: u64, code: &Code, random: &mut Random) {
         ),
     ];
     for (call, library, plain) in rows {
-        println!("{number}     {call:8} {library:10.0} {plain:10.0} {:8.2}", library / plain);
+        print_row(number, call, library, plain);
     }
     let search = nanoseconds(20, |i| code.search(&every, words[i].0, words[i].1));
     println!("{number}     search   {:>10} {search:10.0}", "");
+}
+
+/// Loads of three positions and of all, made by both on the slots of a trace in turn. The library's slots are bytes that it checks first; the
+/// second implementation's are not.
+fn measure_load(number: u64, code: &Code, random: &mut Random) {
+    const COUNT: usize = 200_000;
+    const SLOTS: u64 = 48;
+    let seeds: Vec<u32> = (0..COUNT).map(|_| random.next() as u32).collect();
+    let mut buffer = vec![0; library::size(SLOTS)];
+    let mut plain = Trace::new(code, number, SLOTS as usize, &buffer);
+    library::make(&mut buffer, number, SLOTS).expect("a buffer with room");
+    for slot in 0..SLOTS {
+        let call = Call::Put { slot, step: slot, reading: random.below(4096) };
+        expect("a slot to load", run(&mut buffer, call), plain.run(call));
+    }
+    for count in [3, code.width() as u64] {
+        let of_library = nanoseconds(COUNT, |i| library::load(&mut buffer, i as u64 % SLOTS, seeds[i], count));
+        let of_plain = nanoseconds(COUNT, |i| plain.load(i as u64 % SLOTS, seeds[i], count));
+        print_row(number, &format!("load {count}"), of_library, of_plain);
+    }
+    expect("the bytes after the loads", buffer, plain.bytes());
 }
 
 fn measure_survey(number: u64, code: &Code, random: &mut Random) {
@@ -203,18 +305,21 @@ fn measure_survey(number: u64, code: &Code, random: &mut Random) {
 fn main() {
     let mut random = Random(20261115);
     let codes: Vec<(u64, Code)> = (1..=4).map(|number| (number, Code::new(number))).collect();
+    let mut loads = Loads::new();
     for (number, code) in &codes {
         compare_words(*number, code, &mut random, 200_000);
         compare_search(*number, code, &mut random);
         for _ in 0..2_500 {
-            compare_list(*number, code, &mut random);
+            compare_list(*number, code, &mut random, &mut loads);
         }
     }
     println!("compared: 200000 words and 2500 lists of calls for each code, no difference");
+    println!("loads in these lists, by what they answered (0: accepted): {loads:?}");
     println!("buffers are not cleared between measurements");
     println!("code  call     library ns   plain ns    ratio");
     for (number, code) in &codes {
         measure(*number, code, &mut random);
+        measure_load(*number, code, &mut random);
         measure_survey(*number, code, &mut random);
     }
 }

@@ -49,14 +49,18 @@ static uint64_t written(void)
     return values;
 }
 
-/* The codes, each with the codeword of the message whose highest bit alone is one: its last digit differs between O and E. */
+/* A load of five from seed 1: the number that it hands back, whatever the width. */
+enum { COUNT = 5, HANDED_BACK = 217083232 };
+
+/* The codes, each with the codeword of the message whose highest bit alone is one: its last digit differs between O and E.
+ * And with the positions that a load of five from seed 1 inverts: they differ between the widths. */
 static const struct code {
-    uint64_t number, width, message_bits, steps, codeword;
+    uint64_t number, width, message_bits, steps, codeword, positions[COUNT];
 } codes[] = {
-    {MIZBULETT_CODE_36_O, 36, 19, 128, 0x777777778},
-    {MIZBULETT_CODE_36_E, 36, 19, 128, 0x777777777},
-    {MIZBULETT_CODE_40_O, 40, 22, 1024, 0x7777777778},
-    {MIZBULETT_CODE_40_E, 40, 22, 1024, 0x7777777777},
+    {MIZBULETT_CODE_36_O, 36, 19, 128, 0x777777778, {16, 15, 34, 30, 18}},
+    {MIZBULETT_CODE_36_E, 36, 19, 128, 0x777777777, {16, 15, 34, 30, 18}},
+    {MIZBULETT_CODE_40_O, 40, 22, 1024, 0x7777777778, {16, 21, 26, 20, 0}},
+    {MIZBULETT_CODE_40_E, 40, 22, 1024, 0x7777777777, {16, 21, 26, 20, 0}},
 };
 
 /* The calls on words: each takes the highest bit of a message, a word or marks, and not the bit above it. */
@@ -104,6 +108,57 @@ static void check_slot(struct code code)
     EXPECT(out[MIZBULETT_READ_READING], MIZBULETT_OVER);
     EXPECT(out[MIZBULETT_READ_WRONG], 1);
     EXPECT(out[MIZBULETT_READ_MARKS], 2);
+}
+
+/* Expects the only slot to read step 1 and reading 2, with no wrong bit and as many marks. */
+static void expect_whole(size_t len, uint64_t marks)
+{
+    EXPECT(mizbulett_read(trace, len, 0, out), MIZBULETT_ACCEPTED);
+    EXPECT(out[MIZBULETT_READ_STEP], 1);
+    EXPECT(out[MIZBULETT_READ_READING], 2);
+    EXPECT(out[MIZBULETT_READ_WRONG], 0);
+    EXPECT(out[MIZBULETT_READ_MARKS], marks);
+}
+
+/* A load from a wider number: its low 32 bits are the seed, whatever the register holds above them. */
+static uint64_t load_cut(size_t len, uint64_t slot, uint64_t count, uint64_t wide_seed)
+{
+    return mizbulett_load(trace, len, slot, (uint32_t)wide_seed, count, out);
+}
+
+/* A load: the flips that undo it, the same load that does, the seed handed back, and the highest count. */
+static void check_load(struct code code)
+{
+    const size_t len = MIZBULETT_SIZE(1);
+    /* Called through a pointer, so that the whole number reaches the call. */
+    uint64_t (*volatile load)(size_t, uint64_t, uint64_t, uint64_t) = load_cut;
+
+    EXPECT(mizbulett_make(trace, len, code.number, 1), MIZBULETT_ACCEPTED);
+    EXPECT(mizbulett_put(trace, len, 0, 1, 2), MIZBULETT_ACCEPTED);
+    EXPECT_VALUES(mizbulett_load(trace, len, 0, 1, COUNT, out), MIZBULETT_LOAD_VALUES);
+    EXPECT(out[MIZBULETT_LOAD_NUMBER], HANDED_BACK);
+    for (int i = 0; i < COUNT; i++) {
+        EXPECT(mizbulett_flip(trace, len, 0, code.positions[i]), MIZBULETT_ACCEPTED);
+    }
+    expect_whole(len, 0);
+
+    EXPECT(mizbulett_mark(trace, len, 0, 3), MIZBULETT_ACCEPTED);
+    EXPECT(mizbulett_load(trace, len, 0, UINT32_MAX, code.width, out), MIZBULETT_ACCEPTED);
+    EXPECT(mizbulett_load(trace, len, 0, UINT32_MAX, code.width, out), MIZBULETT_ACCEPTED);
+    EXPECT_VALUES(mizbulett_load(trace, len, 0, UINT32_MAX, 0, out), MIZBULETT_LOAD_VALUES);
+    EXPECT(out[MIZBULETT_LOAD_NUMBER], UINT32_MAX);
+    expect_whole(len, 1);
+
+    EXPECT(mizbulett_load(trace, len, 0, 1, COUNT, out), MIZBULETT_ACCEPTED);
+    EXPECT_VALUES(load(len, 0, COUNT, UINT64_MAX << 32 | 1), MIZBULETT_LOAD_VALUES);
+    EXPECT(out[MIZBULETT_LOAD_NUMBER], HANDED_BACK);
+    expect_whole(len, 1);
+
+    erase();
+    EXPECT(mizbulett_load(trace, len, 0, 1, code.width + 1, out), MIZBULETT_TOO_MANY);
+    EXPECT(mizbulett_load(trace, len, 0, 1, UINT64_C(1) << 32, out), MIZBULETT_TOO_MANY);
+    EXPECT(written(), 0);
+    expect_whole(len, 1);
 }
 
 /* A number that is no code. */
@@ -160,6 +215,23 @@ static void check_read(void)
     EXPECT(mizbulett_read(trace, len, 0, out), MIZBULETT_SLOT_BLANK);
 }
 
+/* What a load refuses before a count above the width: no trace, no slot, and a slot that is blank or bad. It writes no value. */
+static void check_load_refused(void)
+{
+    const size_t len = MIZBULETT_SIZE(1);
+    uint8_t zeros[MIZBULETT_SIZE(0)] = {0};
+
+    erase();
+    EXPECT(mizbulett_load(zeros, sizeof zeros - 1, 1, 1, UINT64_MAX, out), MIZBULETT_BUFFER_SHORT);
+    EXPECT(mizbulett_load(zeros, sizeof zeros, 1, 1, UINT64_MAX, out), MIZBULETT_TRAILER_UNFIT);
+    EXPECT(mizbulett_make(trace, len, MIZBULETT_CODE_36_O, 1), MIZBULETT_ACCEPTED);
+    EXPECT(mizbulett_load(trace, len, 1, 1, UINT64_MAX, out), MIZBULETT_NO_SLOT);
+    EXPECT(mizbulett_load(trace, len, 0, 1, UINT64_MAX, out), MIZBULETT_SLOT_BLANK);
+    spoil(0);
+    EXPECT(mizbulett_load(trace, len, 0, 1, UINT64_MAX, out), MIZBULETT_SLOT_BAD);
+    EXPECT(written(), 0);
+}
+
 /* A survey whose eleven numbers are all different, after one without a pressure. */
 static void check_survey(void)
 {
@@ -212,11 +284,13 @@ int main(void)
     for (size_t i = 0; i < sizeof codes / sizeof codes[0]; i++) {
         check_words(codes[i]);
         check_slot(codes[i]);
+        check_load(codes[i]);
     }
     check_unknown(0);
     check_unknown(5);
     check_sizes();
     check_read();
+    check_load_refused();
     check_survey();
     printf("c names ok\n");
     return 0;

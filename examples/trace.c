@@ -1,4 +1,4 @@
-/* A trace of five slots: pressures and readings that are none, damage that is mended and damage that is not; then a survey. */
+/* A trace of five slots: pressures and readings that are none, damage by hand and from a seed, mended or not; then a survey. */
 #include <inttypes.h>
 #include <stdio.h>
 
@@ -32,6 +32,15 @@ static void print_slot(const uint8_t *trace, uint64_t slot)
     }
 }
 
+/* Damages a slot as the seed says, and gives the number handed back: the seed of a next load. */
+static uint32_t load_slot(uint8_t *trace, uint64_t slot, uint32_t seed, uint64_t count)
+{
+    uint64_t out[MIZBULETT_LOAD_VALUES] = {0};
+    expect_accepted("load", mizbulett_load(trace, SIZE, slot, seed, count, out));
+    printf("load %" PRIu64 " %" PRIu32 " %" PRIu64 ": handed back %" PRIu64 "\n", slot, seed, count, out[MIZBULETT_LOAD_NUMBER]);
+    return (uint32_t)out[MIZBULETT_LOAD_NUMBER];
+}
+
 int main(void)
 {
     uint8_t trace[SIZE];
@@ -55,8 +64,13 @@ int main(void)
         expect_accepted("flip", mizbulett_flip(trace, SIZE, 2, 9 * position));
     }
 
-    /* A step that the code has no room for: refused, and nothing changes. */
+    /* Slots 1 and 3: as many wrong bits as are mended, the same ones wherever these loads are made. */
+    uint32_t next = load_slot(trace, 1, 1, 3);
+    load_slot(trace, 3, next, 3);
+
+    /* A step that the code has no room for, and more bits than a word has: refused, and nothing changes. */
     printf("put 4 128 900: refused %" PRIu64 "\n", mizbulett_put(trace, SIZE, 4, 128, 900));
+    printf("load 0 1 37: refused %" PRIu64 "\n", mizbulett_load(trace, SIZE, 0, 1, 37, out));
 
     for (uint64_t slot = 0; slot < SLOTS; slot++) {
         print_slot(trace, slot);

@@ -1,5 +1,5 @@
 #!/usr/bin/env python3
-"""A trace of five slots: pressures and readings that are none, damage that is mended and damage that is not; then a survey.
+"""A trace of five slots: pressures and readings that are none, damage by hand and from a seed, mended or not; then a survey.
 
 The argument is the path of the shared object. include/mizbulett.h documents every call, number and value.
 """
@@ -13,21 +13,22 @@ SLOTS = 5
 SIZE = 11 * SLOTS + 8
 
 NUMBER = ctypes.c_uint64
+SEED = ctypes.c_uint32
 BUFFER = [ctypes.POINTER(ctypes.c_uint8), ctypes.c_size_t]
 
 
-def declared(library, name, numbers, values=0):
+def declared(library, name, *types, values=0):
     """A trace call on a buffer's bytes: its answer is the number that it returns, and where it has values, these behind it.
 
-    ctypes takes every number modulo 2 to the power 64, so one that is not below that is refused here.
+    ctypes cuts a number that does not fit its type, so such a one is refused here.
     """
     call = library[f"mizbulett_{name}"]
-    call.argtypes = BUFFER + [NUMBER] * numbers + [ctypes.POINTER(NUMBER)] * (values > 0)
+    call.argtypes = BUFFER + list(types) + [ctypes.POINTER(NUMBER)] * (values > 0)
     call.restype = NUMBER
 
     def on_bytes(trace, *arguments):
-        if not all(0 <= argument < 2**64 for argument in arguments):
-            raise ValueError(f"{name} {arguments}: a number is not of 64 bits")
+        if not all(0 <= argument < 256 ** ctypes.sizeof(kind) for kind, argument in zip(types, arguments)):
+            raise ValueError(f"{name} {arguments}: a number does not fit its type")
         buf = (ctypes.c_uint8 * len(trace)).from_buffer(trace)
         if values == 0:
             return call(buf, len(trace), *arguments)
@@ -39,9 +40,10 @@ def declared(library, name, numbers, values=0):
 
 def main():
     library = ctypes.CDLL(sys.argv[1])
-    make, put = declared(library, "make", 2), declared(library, "put", 3)
-    flip, mark = declared(library, "flip", 2), declared(library, "mark", 2)
-    read, survey = declared(library, "read", 1, values=4), declared(library, "survey", 0, values=11)
+    make, put = declared(library, "make", NUMBER, NUMBER), declared(library, "put", NUMBER, NUMBER, NUMBER)
+    flip, mark = declared(library, "flip", NUMBER, NUMBER), declared(library, "mark", NUMBER, NUMBER)
+    load = declared(library, "load", NUMBER, SEED, NUMBER, values=1)
+    read, survey = declared(library, "read", NUMBER, values=4), declared(library, "survey", values=11)
 
     trace = bytearray(SIZE)
     answers = [make(trace, CODE_36_O, SLOTS)]
@@ -53,10 +55,20 @@ def main():
 
     # Slot 2: four wrong bits, one too many.
     answers += [flip(trace, 2, position) for position in (0, 9, 18, 27)]
+
+    # Slots 1 and 3: as many wrong bits as are mended, the same ones wherever these loads are made.
+    # The number that the first load hands back is the seed of the second.
+    seed = 1
+    for slot in (1, 3):
+        number, (handed_back,) = load(trace, slot, seed, 3)
+        answers.append(number)
+        print(f"load {slot} {seed} 3: handed back {handed_back}")
+        seed = handed_back
     assert not any(answers), answers
 
-    # A step that the code has no room for: refused, and nothing changes.
+    # A step that the code has no room for, and more bits than a word has: refused, and nothing changes.
     print("put 4 128 900: refused", put(trace, 4, 128, 900))
+    print("load 0 1 37: refused", load(trace, 0, 1, 37)[0])
 
     for slot in range(SLOTS):
         number, (step, reading, wrong, marks) = read(trace, slot)

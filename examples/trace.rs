@@ -1,11 +1,18 @@
-//! A trace of five slots: pressures and readings that are none, damage that is mended and damage that is not; then a survey.
+//! A trace of five slots: pressures and readings that are none, damage by hand and from a seed, mended or not; then a survey.
 
 #[path = "../include/mizbulett.rs"]
 mod mizbulett;
 
-use mizbulett::{flip, make, mark, put, read, size, survey, CODE_36_O, OVER, UNDER};
+use mizbulett::{flip, load, make, mark, put, read, size, survey, CODE_36_O, OVER, UNDER};
 
 const SLOTS: u64 = 5;
+
+/// Damages a slot as the seed says, and gives the number handed back: the seed of a next load.
+fn load_slot(trace: &mut [u8], slot: u64, seed: u32, count: u64) -> Result<u32, u64> {
+    let number = load(trace, slot, seed, count)?;
+    println!("load {slot} {seed} {count}: handed back {number}");
+    Ok(number)
+}
 
 /// Makes and damages the trace. The number is that of a refused call.
 fn shift(trace: &mut [u8]) -> Result<(), u64> {
@@ -27,6 +34,10 @@ fn shift(trace: &mut [u8]) -> Result<(), u64> {
     for position in [0, 9, 18, 27] {
         flip(trace, 2, position)?;
     }
+
+    // Slots 1 and 3: as many wrong bits as are mended, the same ones wherever these loads are made.
+    let next = load_slot(trace, 1, 1, 3)?;
+    load_slot(trace, 3, next, 3)?;
     Ok(())
 }
 
@@ -34,9 +45,11 @@ fn main() {
     let mut trace = [0; size(SLOTS)];
     shift(&mut trace).expect("every call is accepted");
 
-    // A step that the code has no room for: refused, and nothing changes.
+    // A step that the code has no room for, and more bits than a word has: refused, and nothing changes.
     let refused = put(&mut trace, 4, 128, 900).expect_err("128 steps have the numbers 0 to 127");
     println!("put 4 128 900: refused {refused}");
+    let refused = load(&mut trace, 0, 1, 37).expect_err("a word has 36 bits");
+    println!("load 0 1 37: refused {refused}");
 
     for slot in 0..SLOTS {
         match read(&trace, slot) {

@@ -29,9 +29,9 @@
  *
  * Figures of the archive that `rt staticlib mizbulett` writes:
  *   machine   x86-64 with the System V calling convention (ELF); position independent; SSE registers and the red zone are used
- *   size      18.9 kB, of which 10.3 kB are code and constants (ls, size)
+ *   size      20.3 kB, of which 10.9 kB are code and constants (ls, size)
  *   memory    no heap, and no data that is written: .data and .bss have 0 bytes (size, nm)
- *   symbols   the ten functions below are defined, and memset is needed (nm -g)
+ *   symbols   the eleven functions below are defined, and memset is needed (nm -g)
  *   stack     3,248 bytes at most, beside what memset takes, by the frames in the disassembly: the search in correct, read
  *             and survey calls itself once a column, ten deep. Of a painted stack no call used more than 3,232 bytes, on
  *             traces of 4,000 damaged slots
@@ -47,7 +47,7 @@
 /* Raised whenever a call's numbers or values change; docs/CHANGES.md says which. Neither the linker nor a call compares it: a caller
  * that was compiled with another version's header, or declares the calls by hand, as from Python, may lend too short an `out`,
  * which is then overrun, and take one value for another. Compile every caller anew. */
-#define MIZBULETT_VERSION 2
+#define MIZBULETT_VERSION 3
 
 /* The most slots that a trace has, and the bytes of a trace of n slots: what a buffer needs at least. */
 #define MIZBULETT_MAX_SLOTS 4000
@@ -76,7 +76,8 @@ enum {
     MIZBULETT_SLOT_BAD = 10,         /* the slot's bytes are none that any call writes */
     MIZBULETT_SLOT_BLANK = 11,       /* the slot is blank */
     MIZBULETT_NO_POSITION = 12,      /* the position is not below the width */
-    MIZBULETT_TOO_LARGE = 13         /* the step is not below 128 (codes 1, 2) or 1024 (codes 3, 4), or the reading is above 4095 */
+    MIZBULETT_TOO_LARGE = 13,        /* the step is not below 128 (codes 1, 2) or 1024 (codes 3, 4), or the reading is above 4095 */
+    MIZBULETT_TOO_MANY = 14          /* the count of a load is above the width */
 };
 
 /* The codes, by the bits of a word and the rule for the top row, O or E. */
@@ -124,6 +125,11 @@ uint64_t mizbulett_correct(uint64_t code, uint64_t word, uint64_t marks, uint64_
  */
 
 enum {
+    MIZBULETT_LOAD_NUMBER = 0, /* the number handed back: below 2 to the power 32, and fit to be the next load's seed */
+    MIZBULETT_LOAD_VALUES = 1
+};
+
+enum {
     MIZBULETT_READ_STEP = 0,
     MIZBULETT_READ_READING = 1, /* a pressure where it is above MIZBULETT_UNDER and below MIZBULETT_OVER, and only there */
     MIZBULETT_READ_WRONG = 2,   /* the positions that differ and are not marked */
@@ -157,6 +163,12 @@ uint64_t mizbulett_flip(uint8_t *buf, size_t len, uint64_t slot, uint64_t positi
 
 /* Marks one stored bit of a slot as doubtful; a second mark changes nothing. Refusals 7 to 12. */
 uint64_t mizbulett_mark(uint8_t *buf, size_t len, uint64_t slot, uint64_t position);
+
+/* A fault load, which can be repeated: inverts `count` different stored bits of a slot, drawn from `seed` by the generator of
+ * docs/FORMAT.md, and hands back the generator's number, which may be the next load's seed. Marks stay. The same seed and count
+ * invert the same positions in any slot of a width, so the same load again undoes it. A count of 0 inverts nothing and hands the
+ * seed back. Every seed is fit; C cuts a wider number to 32 bits before the call. Refusals 7 to 11, as a flip's, then 14. */
+uint64_t mizbulett_load(uint8_t *buf, size_t len, uint64_t slot, uint32_t seed, uint64_t count, uint64_t out[MIZBULETT_LOAD_VALUES]);
 
 /* Blanks a slot, whatever it held. Refusals 7, 8, 9. */
 uint64_t mizbulett_clear(uint8_t *buf, size_t len, uint64_t slot);

@@ -28,6 +28,7 @@ pub const SLOT_BAD: u64 = 10;
 pub const SLOT_BLANK: u64 = 11;
 pub const NO_POSITION: u64 = 12;
 pub const TOO_LARGE: u64 = 13;
+pub const TOO_MANY: u64 = 14;
 
 // The codes, by the bits of a word and the rule for the top row.
 pub const CODE_36_O: u64 = 1;
@@ -47,6 +48,9 @@ pub const CORRECT_MESSAGE: usize = 1;
 pub const CORRECT_WRONG: usize = 2;
 pub const CORRECT_MARKS: usize = 3;
 pub const CORRECT_VALUES: usize = 4;
+
+pub const LOAD_NUMBER: usize = 0;
+pub const LOAD_VALUES: usize = 1;
 
 pub const READ_STEP: usize = 0;
 pub const READ_READING: usize = 1;
@@ -68,7 +72,7 @@ pub const SURVEY_MEAN: usize = 10;
 pub const SURVEY_VALUES: usize = 11;
 
 mod c {
-    use super::{CORRECT_VALUES, DECODE_VALUES, ENCODE_VALUES, READ_VALUES, SURVEY_VALUES};
+    use super::{CORRECT_VALUES, DECODE_VALUES, ENCODE_VALUES, LOAD_VALUES, READ_VALUES, SURVEY_VALUES};
 
     extern "C" {
         pub fn mizbulett_encode(code: u64, message: u64, out: *mut [u64; ENCODE_VALUES]) -> u64;
@@ -78,6 +82,7 @@ mod c {
         pub fn mizbulett_put(buf: *mut u8, len: usize, slot: u64, step: u64, reading: u64) -> u64;
         pub fn mizbulett_flip(buf: *mut u8, len: usize, slot: u64, position: u64) -> u64;
         pub fn mizbulett_mark(buf: *mut u8, len: usize, slot: u64, position: u64) -> u64;
+        pub fn mizbulett_load(buf: *mut u8, len: usize, slot: u64, seed: u32, count: u64, out: *mut [u64; LOAD_VALUES]) -> u64;
         pub fn mizbulett_clear(buf: *mut u8, len: usize, slot: u64) -> u64;
         pub fn mizbulett_read(buf: *const u8, len: usize, slot: u64, out: *mut [u64; READ_VALUES]) -> u64;
         pub fn mizbulett_survey(buf: *const u8, len: usize, out: *mut [u64; SURVEY_VALUES]) -> u64;
@@ -123,6 +128,12 @@ pub fn flip(buf: &mut [u8], slot: u64, position: u64) -> Result<(), u64> {
 
 pub fn mark(buf: &mut [u8], slot: u64, position: u64) -> Result<(), u64> {
     accepted(unsafe { c::mizbulett_mark(buf.as_mut_ptr(), buf.len(), slot, position) }, ())
+}
+
+/// The number handed back, which may be the next load's seed.
+pub fn load(buf: &mut [u8], slot: u64, seed: u32, count: u64) -> Result<u32, u64> {
+    let out = answer(|out| unsafe { c::mizbulett_load(buf.as_mut_ptr(), buf.len(), slot, seed, count, out) })?;
+    Ok(u32::try_from(out[LOAD_NUMBER]).expect("a number of 32 bits"))
 }
 
 pub fn clear(buf: &mut [u8], slot: u64) -> Result<(), u64> {

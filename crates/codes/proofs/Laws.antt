@@ -27,7 +27,8 @@ use Rattle.codes.proofs.Codes.{systematic, apart}
 use Rattle.codes.proofs.Corrections as corrections
 use Rattle.codes.proofs.Rows.{not-refused}
 use Rattle.codes.proofs.Tests.{leb-iff, and-iff}
--- the widths and message sizes, at most; and mending, where none of its other refusals is met
+-- a power as a shift; the widths and message sizes, at most; and mending, where none of its other refusals is met
+pub use Rattle.codes.proofs.Digits.{power-fits}
 pub use Rattle.codes.proofs.Codes.{width-le, bits-le}
 pub use Rattle.codes.proofs.Corrections.{correcting-fits}
 

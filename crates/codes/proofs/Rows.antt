@@ -5,7 +5,7 @@
 use Prim.Native.Nat.{ℕ}
 use mathlib.Core.Path.{_≡_, refl, sym, ap, _∙_}
 use mathlib.Core.Bool.{Bool, true, false, cond}
-use mathlib.Core.Logic.{_⊎_, inl, inr}
+use mathlib.Core.Logic.{_⊎_, inl, inr, _↔_}
 use mathlib.Core.Option.{Option, none, some}
 use mathlib.Core.List.{List, [], _∷_, _++_}
 use native.Mathlib.Omega.{arith}
@@ -117,6 +117,20 @@ passes-append rs ss e f = first-append rs ss e ∙ f
 
 pub refuses-behind : (rs ss : List Row) (k : ℕ) → Passes rs → Refuses ss k → Refuses (rs ++ ss) k
 refuses-behind rs ss k e f = first-append rs ss e ∙ f
+
+-- where a table's last row has another number, the rows before it decide
+pub last-apart : (front : List Row) (last : Row) (n : ℕ) → (n ≡ last .number → ⊥) → Refuses (front ++ (last ∷ [])) n ↔ Refuses front n
+last-apart [] last n apart = go (last .met)
+  where
+    go : (t : Bool) → cond t (some (last .number)) none ≡ some n ↔ none ≡ some n
+    go true = (λ e. let same : last .number ≡ n = cc in absurd (apart (sym same)), λ e. let z : _≡_ {A = ℕ} 0 1 = cc in absurd (omega arith))
+    go false = (λ e. e, λ e. e)
+last-apart (r ∷ front) last n apart = go (r .met) (last-apart front last n apart)
+  where
+    go : (t : Bool) → (Refuses (front ++ (last ∷ [])) n ↔ Refuses front n)
+        → cond t (some (r .number)) (firstMet (front ++ (last ∷ []))) ≡ some n ↔ cond t (some (r .number)) (firstMet front) ≡ some n
+    go true rest = (λ e. e, λ e. e)
+    go false rest = rest
 
 pub refuses-front : (rs ss : List Row) (k : ℕ) → Refuses rs k → Refuses (rs ++ ss) k
 refuses-front [] ss k e = let z : _≡_ {A = ℕ} 0 1 = cc in absurd (omega arith)

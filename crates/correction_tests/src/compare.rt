@@ -10,8 +10,12 @@ use crate::samples::SAMPLES;
 use crate::search::Found;
 use crate::search::WORDS;
 use crate::search::counted;
+use crate::slots::Answer;
+use crate::slots::Call;
 use crate::slots::Slot;
 use crate::words::READINGS;
+use crate::words::WIDEST;
+use crate::words::least;
 use crate::words::ones;
 use crate::words::sum;
 use crate::words::wrong;
@@ -24,6 +28,9 @@ ghost use lib.ListN.{length};
 // The outcome of an answer that is not the right one: no sum, refusal or group has this number.
 pub(crate) const DISAGREES: u64 = 99;
 
+// The outcome of a load that is rightly accepted: this and its count.
+pub(crate) const LOADED: u64 = 100;
+
 // The outcome of a right refusal of a word: no sum up to 7 has this number.
 pub(crate) const REFUSED: u64 = 8;
 
@@ -33,9 +40,24 @@ pub(crate) struct Outcomes {
     pub decoded: [u64; WORDS],
 }
 
-// The outcome of an answer whose number should be `due`.
-pub(crate) fn outcome(answer: u64, due: u64) -> u64 {
-    if answer == due { due } else { DISAGREES }
+// The outcome of a call that is rightly accepted: 0 but for a load.
+fn accepted_outcome(call: Call) -> u64 {
+    match call {
+        Call::Load(_, count) => LOADED + least(count, WIDEST),
+        _ => 0,
+    }
+}
+
+// The outcome of a call, which is right where its answer is, and all slots' bytes after it: the refusal's number where it is refused.
+pub(crate) fn call_outcome(call: Call, answer: Answer, due: Answer, bytes_agree: bool) -> u64 {
+    let agrees = answer.refusal == due.refusal && answer.number == due.number && bytes_agree;
+    if !agrees {
+        return DISAGREES;
+    }
+    if due.refusal != 0 {
+        return due.refusal;
+    }
+    accepted_outcome(call)
 }
 
 // The outcome of `correct`: the sum of the near codeword that the search found.

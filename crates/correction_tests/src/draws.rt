@@ -1,4 +1,4 @@
-// A fixed generator of numbers.
+// A fixed generator of numbers, the one that the rule of the fault load names.
 ghost use Prim.Native.Nat.{_≤_, _<_};
 
 // The generator's next number.

@@ -1,11 +1,12 @@
 // Writing, strict reading, mending and the trace calls, tried against a search through all codewords: this program makes each codeword of a
 // code by the scope's definition, compares it with the library's, and holds it against every word that is tried.
 // Most of the words are samples, tried by `correct` and `decode`; the others are left in slots by random lists of trace calls, whose
-// answers are compared too, and are read besides. The scope's words to try that are no theorems are shown.
+// answers and bytes are compared too, and are read besides. The scope's words to try that are no theorems are shown.
 mod codewords;
 mod compare;
 mod draws;
 mod lists;
+mod picks;
 mod samples;
 mod search;
 mod slots;
@@ -14,6 +15,7 @@ mod words;
 use codes::Corrected;
 use codes::Correction;
 use compare::DISAGREES;
+use compare::LOADED;
 use compare::REFUSED;
 use compare::count;
 use libc::STDOUT_FILENO;
@@ -28,6 +30,7 @@ use search::WORDS;
 use search::search;
 use words::columns;
 use words::messages;
+use words::width;
 ghost use Prim.Native.Nat.{_≤_, _<_};
 
 // Writes a text.
@@ -64,11 +67,11 @@ fn show_near(code: u64, c: Correction) {
     named(b", marks ", c.marks);
 }
 
-// How many of the numbers are 0, 1 and so on, to the last.
-fn show_counts(numbers: &[u64], last: u64)
-    requires { ⌜ last < 64 ⌝ }
+// How many of the numbers are the first one, the next and so on, to the last.
+fn show_counts(numbers: &[u64], first: u64, last: u64)
+    requires { ⌜ last < 256 ⌝ }
 {
-    let mut n: u64 = 0;
+    let mut n = first;
     while n <= last {
         named(b" ", count(numbers, n));
         n += 1;
@@ -101,7 +104,7 @@ fn show_decoded(code: u64, outcomes: &[u64; WORDS]) {
 fn show_corrected(code: u64, outcomes: &[u64; WORDS]) {
     named(b"code ", code);
     text(b" correct: mended by sum 0 to 7:");
-    show_counts(outcomes, 7);
+    show_counts(outcomes, 0, 7);
     named(b", refused ", count(outcomes, REFUSED));
     show_disagreements(outcomes);
 }
@@ -129,7 +132,7 @@ fn show_kinds(code: u64, outcomes: [u64; WORDS]) {
 fn show_noise(code: u64, mark_counts: [u64; WORDS]) {
     named(b"code ", code);
     text(b" noise: words by marks 0 to 8:");
-    show_counts(&mark_counts[NOISE..SAMPLES], 8);
+    show_counts(&mark_counts[NOISE..SAMPLES], 0, 8);
     text(b"\n");
 }
 
@@ -137,17 +140,27 @@ fn show_noise(code: u64, mark_counts: [u64; WORDS]) {
 fn show_reads(code: u64, outcomes: &[u64; ALL]) {
     named(b"code ", code);
     text(b" read: slots by sum 0 to 10:");
-    show_counts(outcomes, 10);
+    show_counts(outcomes, 0, 10);
     named(b", above 10: ", count(outcomes, 11));
     named(b", blank: ", count(outcomes, 12));
     show_disagreements(outcomes);
 }
 
-// What the calls of the lists answer, 0 where they are accepted.
-fn show_calls(code: u64, outcomes: &[u64; ALL_CALLS]) {
+// How many calls of the lists are accepted, the loads by their count.
+fn show_accepted(code: u64, outcomes: &[u64; ALL_CALLS]) {
     named(b"code ", code);
-    text(b" put, flip, mark, clear: calls by answer 0 to 13:");
-    show_counts(outcomes, 13);
+    named(b" put, flip, mark, clear: accepted ", count(outcomes, 0));
+    named(b"; load: accepted by count 0 to ", width(code));
+    text(b":");
+    show_counts(outcomes, LOADED, LOADED + width(code));
+    text(b"\n");
+}
+
+// How many calls of the lists are refused, by the refusal's number.
+fn show_refused(code: u64, outcomes: &[u64; ALL_CALLS]) {
+    named(b"code ", code);
+    text(b" put, flip, mark, load, clear: refused by number 1 to 14:");
+    show_counts(outcomes, 1, 14);
     show_disagreements(outcomes);
 }
 
@@ -175,7 +188,8 @@ fn report(code: u64) {
     show_tried(code, &words, &marks, found);
     let read = compare::read_outcomes(code, trials, found);
     show_reads(code, &read);
-    show_calls(code, &called);
+    show_accepted(code, &called);
+    show_refused(code, &called);
 }
 
 // The scope's words to try, and words of believable faults.

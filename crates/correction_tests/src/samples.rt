@@ -7,6 +7,7 @@ use crate::draws::remainder;
 use crate::draws::wide;
 use crate::search::WORDS;
 use crate::words::columns;
+use crate::words::least;
 use crate::words::message_bits;
 use crate::words::ones;
 use crate::words::positions;
@@ -72,13 +73,6 @@ fn disturbed(code: u64, codeword: u64, under: u64, start: u64, wrong: u64, marke
 // The codeword of a drawn message.
 fn drawn_codeword(code: u64, state: u64) -> u64 {
     codeword(code, wide(state, message_bits(code)))
-}
-
-// The smaller of two numbers.
-fn least(a: u64, b: u64) -> u64
-    ensures { λ r. ⌜ (r ≤ a) × (r ≤ b) ⌝ }
-{
-    if a < b { a } else { b }
 }
 
 // Four words for each sum from 0 to 10 around a codeword, with no to three wrong bits and marks anywhere.

@@ -1,9 +1,13 @@
 // What a slot should hold after calls, and what each call should answer, by the calls alone and never by their answers.
 use crate::codewords::codeword;
+use crate::picks::pick_all;
+use crate::search::counted;
 use crate::words::READINGS;
+use crate::words::bit;
 use crate::words::steps;
 use crate::words::sum;
 use crate::words::width;
+ghost use Prim.Native.Nat.{_≤_};
 
 // A slot; the message is the one that was put last. A blank slot's numbers are 0.
 pub(crate) struct Slot {
@@ -21,6 +25,24 @@ pub(crate) enum Call {
     // Position.
     Flip(u64),
     Mark(u64),
+    // Seed and count.
+    Load(u32, u64),
+}
+
+// What a call answers: 0 where it is accepted, otherwise the refusal's number; and the number that a load hands back, otherwise 0.
+pub(crate) struct Answer {
+    pub refusal: u64,
+    pub number: u64,
+}
+
+impl Answer {
+    // Of a call that hands no number back.
+    pub(crate) fn plain(refusal: u64) -> Answer {
+        Answer {
+            refusal: refusal,
+            number: 0,
+        }
+    }
 }
 
 impl Slot {
@@ -57,27 +79,52 @@ impl Slot {
         self
     }
 
-    // What a flip or a mark should answer: 0, or refusal 11 or 12.
-    fn position_answer(self, code: u64, position: u64) -> u64 {
-        if !self.written {
-            return 11;
-        }
-        if width(code) <= position { 12 } else { 0 }
+    // After a load.
+    fn load(mut self, code: u64, seed: u32, count: u64) -> Slot {
+        self.word = self.word ^ pick_all(code, seed, count).positions;
+        self
     }
 
-    // What a call of this slot should answer: 0 where it is accepted, otherwise the refusal's number.
-    pub(crate) fn answer(self, code: u64, call: Call) -> u64 {
+    // What a flip or a mark should answer: 0, or refusal 11 or 12.
+    fn position_answer(self, code: u64, position: u64) -> Answer {
+        if !self.written {
+            return Answer::plain(11);
+        }
+        if width(code) <= position {
+            return Answer::plain(12);
+        }
+        Answer::plain(0)
+    }
+
+    // What a load should answer: 0 and the number, or refusal 11 or 14.
+    fn load_answer(self, code: u64, seed: u32, count: u64) -> Answer {
+        if !self.written {
+            return Answer::plain(11);
+        }
+        if width(code) < count {
+            return Answer::plain(14);
+        }
+        Answer {
+            refusal: 0,
+            number: pick_all(code, seed, count).number,
+        }
+    }
+
+    // What a call of this slot should answer.
+    pub(crate) fn answer(self, code: u64, call: Call) -> Answer {
         match call {
             Call::Put(step, reading) => put_answer(code, step, reading),
-            Call::Clear => 0,
+            Call::Clear => Answer::plain(0),
             Call::Flip(position) => self.position_answer(code, position),
             Call::Mark(position) => self.position_answer(code, position),
+            Call::Load(seed, count) => self.load_answer(code, seed, count),
         }
     }
 
     // After a call: a refused one changes nothing.
     pub(crate) fn after(self, code: u64, call: Call) -> Slot {
-        if self.answer(code, call) != 0 {
+        let answer = self.answer(code, call);
+        if answer.refusal != 0 {
             return self;
         }
         match call {
@@ -85,6 +132,18 @@ impl Slot {
             Call::Clear => Slot::blank(),
             Call::Flip(position) => self.flip(code, position),
             Call::Mark(position) => self.mark(code, position),
+            Call::Load(seed, count) => self.load(code, seed, count),
+        }
+    }
+
+    // A byte of the slot: its state, its word, its marks, each with the high byte first.
+    pub(crate) fn byte(self, offset: u64) -> u64
+        requires { ⌜ offset ≤ 10 ⌝ }
+    {
+        match offset {
+            0 => counted(self.written),
+            1..=5 => (self.word >> (8 * (5 - offset))) % 256,
+            _ => (self.marks >> (8 * (10 - offset))) % 256,
         }
     }
 
@@ -99,18 +158,12 @@ impl Slot {
 }
 
 // What a put should answer: 0, or refusal 13.
-fn put_answer(code: u64, step: u64, reading: u64) -> u64 {
+fn put_answer(code: u64, step: u64, reading: u64) -> Answer {
     if steps(code) <= step {
-        return 13;
+        return Answer::plain(13);
     }
-    if READINGS <= reading { 13 } else { 0 }
-}
-
-// The bit of a position; 0 where there is no such position.
-fn bit(code: u64, position: u64) -> u64 {
-    let width = width(code);
-    if width <= position {
-        return 0;
+    if READINGS <= reading {
+        return Answer::plain(13);
     }
-    1u64 << (width - 1 - position)
+    Answer::plain(0)
 }

@@ -4,6 +4,9 @@ ghost use Prim.Native.Nat.{_≤_, _<_};
 // The readings of a step.
 pub(crate) const READINGS: u64 = 4096;
 
+// The bits of the widest words.
+pub(crate) const WIDEST: u64 = 40;
+
 // The columns of a code's words.
 pub(crate) fn columns(code: u64) -> usize
     ensures { λ r. ⌜ (9 ≤ r) × (r ≤ 10) ⌝ }
@@ -15,7 +18,7 @@ pub(crate) fn columns(code: u64) -> usize
 pub(crate) fn width(code: u64) -> u64
     ensures { λ r. ⌜ (36 ≤ r) × (r ≤ 40) ⌝ }
 {
-    if code <= 2 { 36 } else { 40 }
+    if code <= 2 { 36 } else { WIDEST }
 }
 
 // The bits of a code's messages.
@@ -46,6 +49,22 @@ pub(crate) fn positions(code: u64) -> u64 {
     } else {
         0xFF_FFFF_FFFF
     }
+}
+
+// The bit of a position; 0 where there is no such position.
+pub(crate) fn bit(code: u64, position: u64) -> u64 {
+    let width = width(code);
+    if width <= position {
+        return 0;
+    }
+    1u64 << (width - 1 - position)
+}
+
+// The smaller of two numbers.
+pub(crate) fn least(a: u64, b: u64) -> u64
+    ensures { λ r. ⌜ (r ≤ a) × (r ≤ b) ⌝ }
+{
+    if a < b { a } else { b }
 }
 
 // The ones of a number.

@@ -1,13 +1,13 @@
 -- Decimal digits, one at a time: a number below ten is its own digit, any other has the digits of its tenth and then its last one; so
--- more room than a number needs changes nothing, and a number below a power of ten has no more digits than the exponent.
-use mathlib.Core.Path.{_≡_, refl}
+-- more room than a number needs changes nothing, and a number below 10 to the power k needs room for k digits.
+use mathlib.Core.Path.{_≡_, refl, _∙_}
 use mathlib.Core.Bool.{Bool, true, false, cond}
 use mathlib.Core.List.{[], _∷_, _++_}
 use Prim.Native.Nat.{ℕ, zero, suc, _/_, _%_, _^_, _<_, _≤_}
 use native.Mathlib.Omega.{arith}
 use lib.Dec.{ltb}
 use lib.ListN.{length, length-append}
-use borrow.Author.Tests.{lt-ltb, le-ltb, ltb-false}
+use borrow.Author.Tests.{lt-ltb, le-ltb, ltb-true, ltb-false}
 use Rattle.lines.specs.Text.{digit, digits, decimal}
 
 digits-enough : (j k n : ℕ) → n < j → n < k → digits j n ≡ digits k n
@@ -30,18 +30,27 @@ pub decimal-more : (n : ℕ) → 10 ≤ n → decimal n ≡ decimal (n / 10) ++ 
 unfolding decimal digits
 decimal-more n h = simp (le-ltb n 10 h, digits-enough n (suc (n / 10)) (n / 10) (omega arith) (omega arith))
 
-digits-short : (k j n : ℕ) → n < 10 ^ suc k → length (digits j n) ≤ suc k
+-- so a large number's digits can be computed
+pub decimal-within : (k n : ℕ) → n < 10 ^ suc k → decimal n ≡ digits (suc k) n
 unfolding digits
-digits-short k zero n h = omega arith
-digits-short zero (suc j) n h = simp (lt-ltb n 10 (omega arith)) (omega arith)
-digits-short (suc k) (suc j) n h = go (ltb n 10) (digits-short k j (n / 10) (omega arith))
+decimal-within zero n h = decimal-one n (omega arith) ∙ simp (lt-ltb n 10 (omega arith))
+decimal-within (suc k) n h = go (ltb n 10) refl (decimal-within k (n / 10) (omega arith))
   where
-    go : (small : Bool) → length (digits j (n / 10)) ≤ suc k
-        → length (cond small (digit n ∷ []) (digits j (n / 10) ++ (digit (n % 10) ∷ []))) ≤ suc (suc k)
+    go : (small : Bool) → ltb n 10 ≡ small → decimal (n / 10) ≡ digits (suc k) (n / 10)
+        → decimal n ≡ cond small (digit n ∷ []) (digits (suc k) (n / 10) ++ (digit (n % 10) ∷ []))
+    go true e tenth = decimal-one n (ltb-true n 10 e)
+    go false e tenth = rw (← tenth) (decimal-more n (ltb-false n 10 e))
+
+digits-few : (k n : ℕ) → length (digits k n) ≤ k
+unfolding digits
+digits-few zero n = omega arith
+digits-few (suc k) n = go (ltb n 10) (digits-few k (n / 10))
+  where
+    go : (small : Bool) → length (digits k (n / 10)) ≤ k
+        → length (cond small (digit n ∷ []) (digits k (n / 10) ++ (digit (n % 10) ∷ []))) ≤ suc k
     go true tenth = omega arith
     go false tenth = simp length-append (omega arith)
 
 -- a number of 64 bits has at most twenty digits
 pub decimal-short : (n : ℕ) → n < 2 ^ 64 → length (decimal n) ≤ 20
-unfolding decimal
-decimal-short n h = digits-short 19 (suc n) n (omega arith)
+decimal-short n h = rw (decimal-within 19 n (omega arith)) (digits-few 20 n)

@@ -1,9 +1,10 @@
 -- Texts of files that are given byte for byte, from the bytes to the text: listings and reports of the scope's, of refused ones, of one whose
--- slot is under and of one whose slot is bad, and the lines of calls on them; and the lines of what can't be played. Trailer, slots, survey and
--- lines are computed by their definitions. Mending is a search through all codewords, and the codes' claims give what it finds. In the scope's
--- file slot 0 is two positions from the codeword of 74·4096 + 2385, slot 3 is the codeword of 4095, and slot 2 is that one with the four bits of a
--- column inverted, so that its sum is 8 and no codeword is near. The word 0 is the codeword of message 0.
+-- slot is under and of one whose slot is bad, and the lines of calls on them; the line of a load; and the lines of what can't be played. Trailer,
+-- slots, survey and lines are computed by their definitions. Mending is a search through all codewords, and the codes' claims give what it finds.
+-- In the scope's file slot 0 is two positions from the codeword of 74·4096 + 2385, slot 3 is the codeword of 4095, and slot 2 is that one with the
+-- four bits of a column inverted, so that its sum is 8 and no codeword is near. The word 0 is the codeword of message 0.
 use mathlib.Core.Path.{_≡_, refl, ap}
+use mathlib.Core.List.{[], _∷_}
 use mathlib.Core.Option.{none, some}
 use lib.Dec.{lit<}
 use lib.ListN.{length}
@@ -23,12 +24,13 @@ use Rattle.trace.specs.View.{readCorrected, readContent}
 use Rattle.trace.specs.Survey.{statusOf, count, pressures, total, smallest, largest, extremes, answersOf, surveyOf}
 use Rattle.trace.specs.Refusals.{isFit, isBad}
 use Rattle.trace.specs.Trace.{contentWith, viewIn, aloneIn, surveyIn}
-use Rattle.lines.specs.Text.{digits, decimal, hex, each, noted}
+use Rattle.lines.specs.Text.{text, digits, decimal, hex, each, noted}
 use Rattle.lines.specs.Input.{surveyFile}
 use Rattle.lines.specs.Listing.{ending, slotLine, slotLines, listing}
-use Rattle.lines.specs.Answers.{surveyLine, bytesLine}
+use Rattle.lines.specs.Answers.{answerLine, surveyLine, bytesLine}
 use Rattle.lines.specs.Trouble.{visibleByte, shown, troubleLine}
 use Rattle.lines.specs.Report.{statusLine, report}
+use Rattle.lines.proofs.Decimals.{decimal-within}
 use Rattle.lines.specs.Claims.{exampleFile, Example, underFile, badFile, OtherListings, ListedNumbers, ExampleReport, OtherReports, AnswerLines, TroubleLines}
 
 -- code 1
@@ -102,6 +104,11 @@ other-reports =
       numbers = refl;
     }
 
+-- a load's number is large: its ten digits are computed with room for no more
+load-line : answerLine (accepted (2165703038 ∷ [])) ≡ text "ok 2165703038\n"
+unfolding noted each digits
+load-line = rw (decimal-within 9 2165703038 (lit< tt))
+
 pub answer-lines : AnswerLines
 unfolding
     exampleFile underFile badFile part numberFrom placeFrom isFit isBad contentWith viewIn aloneIn readContent readCorrected
@@ -109,6 +116,7 @@ unfolding
 answer-lines =
     record {
       done = refl;
+      load = load-line;
       read = rw slot-0;
       blank = refl;
       lost = rw slot-2;
@@ -119,7 +127,7 @@ answer-lines =
       absent = refl;
       refused = refl;
       bytes = refl;
-      lent = refl;
+      size = refl;
     }
 
 pub trouble-lines : TroubleLines

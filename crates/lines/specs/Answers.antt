@@ -1,5 +1,5 @@
 -- What a script's lines are answered with, over what the calls of the trace answer.
-use mathlib.Core.List.{List, [], _∷_, _++_}
+use mathlib.Core.List.{List, [], _++_}
 use Prim.Native.Nat.{ℕ}
 use lib.ListN.{take}
 use Rattle.codes.specs.Answer.{Answer, accepted, refused}
@@ -10,7 +10,7 @@ use Rattle.lines.specs.Text.{text, hex, each, noted, line}
 use Rattle.lines.specs.Input.{longest}
 use Rattle.lines.specs.Listing.{refusedLine}
 
--- a call's line: `ok` and its values, or `refused` and its number
+-- a call's line: `ok` and its values, or `refused` and its number; the value of a file that was opened or saved is how many bytes it had
 abbrev pub answerLine : Answer (List ℕ) → List ℕ
 answerLine (accepted values) = line (text "ok") values
 answerLine (refused number) = refusedLine number
@@ -28,7 +28,3 @@ surveyLine (refused number) = refusedLine number
 -- the bytes of a buffer in hexadecimal, and a newline; of a longer buffer than any that is lent, the first 65,536
 unfoldable pub bytesLine : List ℕ → List ℕ
 bytesLine bytes = each hex (take longest bytes) ++ text "\n"
-
--- how many bytes a file had that was opened or saved
-abbrev pub lentLine : ℕ → List ℕ
-lentLine size = line (text "ok") (size ∷ [])

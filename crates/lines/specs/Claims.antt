@@ -4,14 +4,15 @@ use mathlib.Core.List.{List, [], _∷_, _++_}
 use Prim.Native.Nat.{ℕ, _<_, _≤_}
 use lib.ListN.{length, replicate}
 use Rattle.codes.specs.Answer.{accepted, mapAnswer}
+use Rattle.trace.specs.declared.answer.LoadAnswer.{LoadAnswer}
 use Rattle.trace.specs.declared.answer.Pressures.{Pressures}
 use Rattle.trace.specs.declared.answer.Survey.{Survey}
-use Rattle.trace.specs.Answers.{readingValues}
+use Rattle.trace.specs.Answers.{loadAnswer, readingValues}
 use Rattle.trace.specs.Trace.{aloneIn, surveyIn}
 use Rattle.lines.specs.declared.trouble.Trouble.{Trouble}
 use Rattle.lines.specs.Text.{text}
 use Rattle.lines.specs.Listing.{slotLine, totalLine, listing}
-use Rattle.lines.specs.Answers.{answerLine, surveyLine, bytesLine, lentLine}
+use Rattle.lines.specs.Answers.{answerLine, surveyLine, bytesLine}
 use Rattle.lines.specs.Trouble.{mostShown, shown, troubleLine}
 use Rattle.lines.specs.Report.{countLines, reported, report}
 
@@ -106,9 +107,10 @@ pub record OtherReports : Type 0 where
 
 -- ---- the answers to a script's lines
 
--- calls on the same three files, with and without a pressure; bytes and sizes
+-- calls on the same three files, with and without a pressure; a load's number, bytes and sizes
 pub record AnswerLines : Type 0 where
   pub done : answerLine (accepted []) ≡ text "ok\n"
+  pub load : answerLine (loadAnswer (LoadAnswer.Loaded 2165703038)) ≡ text "ok 2165703038\n"
   pub read : answerLine (mapAnswer readingValues (aloneIn exampleFile 0)) ≡ text "ok 74 2385 2 0\n"
   pub blank : answerLine (mapAnswer readingValues (aloneIn exampleFile 1)) ≡ text "refused 11\n"
   pub lost : answerLine (mapAnswer readingValues (aloneIn exampleFile 2)) ≡ text "refused 5\n"
@@ -119,7 +121,7 @@ pub record AnswerLines : Type 0 where
   pub absent : surveyLine (surveyIn badFile) ≡ text "ok 0 0 0 0 0 1 0 - - -\n"
   pub refused : surveyLine (surveyIn []) ≡ text "refused 7\n"
   pub bytes : bytesLine (0x00 ∷ 0x2C ∷ 0xE4 ∷ 0xFF ∷ []) ≡ text "002CE4FF\n"
-  pub lent : lentLine 65536 ≡ text "ok 65536\n"
+  pub size : answerLine (accepted (65536 ∷ [])) ≡ text "ok 65536\n"
 
 -- what can't be played: a tab, an escape and a backslash are made visible, and a long line is cut
 pub record TroubleLines : Type 0 where

@@ -5,18 +5,19 @@ use crate::line::write_line;
 use crate::line::write_noted;
 use crate::text::write_hexes;
 use trace::Done;
+use trace::LoadAnswer;
 use trace::Pressures;
 use trace::ReadAnswer;
 use trace::Survey;
 use trace::SurveyAnswer;
 ghost use mathlib.Core.Path.{_≡_};
-ghost use mathlib.Core.List.{_++_};
+ghost use mathlib.Core.List.{[], _∷_, _++_};
 ghost use Prim.Native.Nat.{_+_, _*_, _≤_};
 ghost use lib.ListN.{length};
 ghost use Rattle.codes.specs.Answer.{accepted, mapAnswer};
-ghost use Rattle.trace.specs.Answers.{doneAnswer, readAnswer, readingValues, surveyAnswer};
+ghost use Rattle.trace.specs.Answers.{doneAnswer, loadAnswer, readAnswer, readingValues, surveyAnswer};
 ghost use Rattle.lines.specs.Text.{text, hex, each, Begins, Lendable};
-ghost use Rattle.lines.specs.Answers.{answerLine, surveyLine, bytesLine, lentLine};
+ghost use Rattle.lines.specs.Answers.{answerLine, surveyLine, bytesLine};
 ghost use Rattle.lines.specs.ContractsOfSteps.{Written};
 
 // Every answer fits: two digits for each byte of the longest buffer, and a newline.
@@ -33,6 +34,26 @@ pub fn done_line(answer: Done, out: &mut [u8; ANSWER]) -> usize
             let none: [u64; 0] = [];
             write_line(out, 0, b"ok", &none)
         }
+    }
+}
+
+// The line of one number: what a load hands back, or how many bytes a file had that was opened or saved.
+pub fn number_line(number: u64, out: &mut [u8; ANSWER]) -> usize
+    ensures { λ r. ⌜ Begins (now (out .entry)) (answerLine (accepted (number ∷ []))) (now (out .exit)) r ⌝ }
+    ensures { λ r. ⌜ Lendable (now (out .exit)) r ⌝ }
+{
+    let numbers = [number];
+    write_line(out, 0, b"ok", &numbers)
+}
+
+// The line of a load: the number handed back.
+pub fn load_line(answer: LoadAnswer, out: &mut [u8; ANSWER]) -> usize
+    ensures { λ r. ⌜ Begins (now (out .entry)) (answerLine (loadAnswer answer)) (now (out .exit)) r ⌝ }
+    ensures { λ r. ⌜ Lendable (now (out .exit)) r ⌝ }
+{
+    match answer {
+        LoadAnswer::Refused(r) => refused_line(out, r.number()),
+        LoadAnswer::Loaded(number) => number_line(number as u64, out),
     }
 }
 
@@ -98,13 +119,4 @@ pub fn bytes_line(bytes: &[u8], out: &mut [u8; ANSWER]) -> usize
         return hex_line(&bytes[..LONGEST], out);
     }
     hex_line(bytes, out)
-}
-
-// The line of a file that was opened or saved: how many bytes it had.
-pub fn lent_line(size: u64, out: &mut [u8; ANSWER]) -> usize
-    ensures { λ r. ⌜ Begins (now (out .entry)) (lentLine size) (now (out .exit)) r ⌝ }
-    ensures { λ r. ⌜ Lendable (now (out .exit)) r ⌝ }
-{
-    let numbers = [size];
-    write_line(out, 0, b"ok", &numbers)
 }

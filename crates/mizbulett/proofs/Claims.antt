@@ -8,7 +8,7 @@ use mathlib.Core.List.{List, [], _∷_}
 use Rattle.codes.specs.Answer.{Answer, accepted, refused, Row, mapAnswer, Passes, Refuses}
 use Rattle.codes.specs.Claims.{Among, ByTable}
 use Rattle.codes.proofs.Rows.{not-refused, refused-among}
-use Rattle.trace.specs.Calls.{Call, put, flip, mark, clear, read, survey, After}
+use Rattle.trace.specs.Calls.{Call, put, flip, mark, load, clear, read, survey, After}
 use Rattle.trace.specs.Answers.{surveyValues}
 use Rattle.trace.specs.Trace.{surveyIn}
 use Rattle.trace.specs.Claims.{numbersOf, Harmless}
@@ -26,6 +26,7 @@ calls-positive : (c : Call) → positive (numbersOf c) ≡ true
 calls-positive (put slot step reading) = refl
 calls-positive (flip slot position) = refl
 calls-positive (mark slot position) = refl
+calls-positive (load slot seed count) = refl
 calls-positive (clear slot) = refl
 calls-positive (read slot) = refl
 calls-positive survey = refl
@@ -94,6 +95,7 @@ return-numbers =
       correct = λ code word marks out. by-values refl _ out (demand1 .words .corrections code word marks);
       makings = λ m buf. by-bytes refl _ buf (demand1 .makings m buf);
       changes = λ c buf. by-bytes (calls-positive c) _ buf (demand1 .calls c buf);
+      loads = λ slot seed count buf out. by-values refl _ out (demand1 .calls (load slot seed count) buf .answer);
       reads = λ slot buf out. by-values refl _ out (demand1 .calls (read slot) buf .answer);
       surveys = λ buf out. by-values refl _ out (by-form surveyValues surveyFlagged (surveyIn buf) (rw (survey-gives buf) at (demand1 .calls survey buf .answer)));
     }

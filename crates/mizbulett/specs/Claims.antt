@@ -10,7 +10,7 @@ use Rattle.codes.specs.Codes.{encoding, decoding, correcting, under}
 use Rattle.codes.specs.Claims.{Among, encodingNumbers, encodingRows, decodingNumbers, decodingRows, correctingNumbers, correctingRows}
 use Rattle.trace.specs.declared.answer.Counts.{Counts}
 use Rattle.trace.specs.declared.answer.Pressures.{Pressures}
-use Rattle.trace.specs.Calls.{Call, read, survey, Making}
+use Rattle.trace.specs.Calls.{Call, load, read, survey, Making}
 use Rattle.trace.specs.Trace.{refusalsIn, onBytes, makeRows, make, surveyIn}
 use Rattle.trace.specs.Claims.{numbersOf, makingNumbers}
 use Rattle.mizbulett.specs.Returned.{Returned, returns, leaves, surveyFlagged}
@@ -30,8 +30,10 @@ pub record ReturnNumbers : Type 0 where
   pub correct : (code word marks : ℕ) (out : List ℕ)
       → ReturnsBy correctingNumbers (correctingRows code word marks) out (returns (under code (λ π. correcting π word marks)) out)
   pub makings : (m : Making) (buf : List ℕ) → ReturnsBy makingNumbers (makeRows m buf) buf (leaves (make m buf))
-  -- put, flip, mark and clear: what is lent is the buffer
+  -- put, flip, mark, load and clear: what is lent is the buffer, and to a load `out` too
   pub changes : (c : Call) (buf : List ℕ) → ReturnsBy (numbersOf c) (refusalsIn c buf) buf (leaves (onBytes c buf))
+  pub loads : (slot seed count : ℕ) (buf out : List ℕ)
+      → ReturnsBy (numbersOf (load slot seed count)) (refusalsIn (load slot seed count) buf) out (returns (onBytes (load slot seed count) buf .answer) out)
   pub reads : (slot : ℕ) (buf out : List ℕ)
       → ReturnsBy (numbersOf (read slot)) (refusalsIn (read slot) buf) out (returns (onBytes (read slot) buf .answer) out)
   pub surveys : (buf out : List ℕ) → ReturnsBy (numbersOf survey) (refusalsIn survey buf) out (returns (mapAnswer surveyFlagged (surveyIn buf)) out)

@@ -1,12 +1,13 @@
 // The trace calls.
 use trace::Done;
+use trace::LoadAnswer;
 use trace::Pressures;
 use trace::ReadAnswer;
 use trace::Survey;
 use trace::SurveyAnswer;
 ghost use mathlib.Core.Path.{_≡_};
 ghost use Rattle.codes.specs.Answer.{mapAnswer};
-ghost use Rattle.trace.specs.Calls.{put, flip, mark, clear, read};
+ghost use Rattle.trace.specs.Calls.{put, flip, mark, load, clear, read};
 ghost use Rattle.trace.specs.Trace.{onBytes, make, surveyIn};
 ghost use Rattle.trace.specs.Answers.{doneAnswer};
 ghost use Rattle.mizbulett.specs.Returned.{presence, numberOf, returned, returns, leaves, surveyFlagged};
@@ -51,6 +52,27 @@ pub extern "C" fn mizbulett_mark(buf: &mut [u8], slot: u64, position: u64) -> u6
     ensures { λ r. ⌜ returned r (now (buf .exit)) ≡ leaves (onBytes (mark slot position) (now (buf .entry))) ⌝ }
 {
     number(trace::mark(buf, slot, position))
+}
+
+// Inverts so many different stored bits, drawn from a seed, and writes the number handed back. Refusals 7 to 11, then 14.
+#[no_mangle]
+pub extern "C" fn mizbulett_load(
+    buf: &mut [u8],
+    slot: u64,
+    seed: u32,
+    count: u64,
+    out: &mut [u64; 1],
+) -> u64
+    ensures { λ r. ⌜ returned r (now (buf .exit)) ≡ leaves (onBytes (load slot seed count) (now (buf .entry))) ⌝ }
+    ensures { λ r. ⌜ returned r (now (out .exit)) ≡ returns (onBytes (load slot seed count) (now (buf .entry)) .answer) (now (out .entry)) ⌝ }
+{
+    match trace::load(buf, slot, seed, count) {
+        LoadAnswer::Refused(r) => r.number(),
+        LoadAnswer::Loaded(number) => {
+            *out = [number as u64];
+            0
+        }
+    }
 }
 
 // Blanks a slot. Refusals 7, 8 and 9.

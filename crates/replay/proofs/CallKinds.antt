@@ -1,25 +1,28 @@
--- Kinds of calls. A kind past read's is a survey's: the table of counts ends in its 0 and has 0 past its end, and the kind is none of those
--- that a call is first asked for.
-use Prim.Native.Nat.{ℕ, zero, suc, _-_, _<_, _≤_}
+-- The room that a call of each kind needs: a load three places, a call of any other kind those of its answer's numbers. Each kind names one
+-- call, of which the definition says so.
+use Prim.Native.Nat.{ℕ, zero, suc, _<_}
 use mathlib.Core.Path.{_≡_, refl}
-use mathlib.Core.Bool.{false}
-use mathlib.Core.List.{[], _∷_}
+use mathlib.Core.List.{List}
 use native.Mathlib.Omega.{arith}
-use lib.Dec.{eqb, lit<}
-use lib.ListN.{getD}
-use borrow.Author.Tests.{ne-eqb}
-use Rattle.trace.specs.Calls.{survey}
-use Rattle.replay.specs.Numbers.{kinds, callWith}
+use lib.ListN.{length}
+use Rattle.codes.specs.Answer.{Answer}
+use Rattle.replay.specs.declared.calls.CallNumbers.{CallNumbers}
+use Rattle.replay.specs.Numbers.{callWith, answerNumbers, roomFor}
+use Rattle.replay.specs.ContractsOfSteps.{callOf}
 
-pub survey-no-numbers : (kind : ℕ) → 5 ≤ kind → 0 ≡ getD kinds kind 0
-survey-no-numbers kind h = let e : kind ≡ suc (suc (suc (suc (suc (kind - 5))))) = omega arith in rw e (go (kind - 5))
-  where
-    go : (k : ℕ) → _≡_ {A = ℕ} 0 (getD (0 ∷ []) k 0)
-    go zero = refl
-    go (suc k) = refl
-
-pub survey-call : (kind x y z : ℕ) → 5 ≤ kind → callWith kind x y z ≡ survey
+pub room-of-answer : (c : CallNumbers) (a : Answer (List ℕ)) → c .kind < 6 → roomFor (callOf c) a ≡ length (answerNumbers a)
 unfolding callWith
-survey-call kind x y z h =
-    let other : (k : ℕ) → k < 5 → eqb kind k ≡ false = λ k lt. ne-eqb kind k (λ e. omega arith) in
-    simp (other 0 (lit< tt), other 1 (lit< tt), other 2 (lit< tt), other 3 (lit< tt), other 4 (lit< tt))
+room-of-answer c a lt = go (c .kind) lt
+  where
+    go : (kind : ℕ) → kind < 6 → roomFor (callWith kind (c .x) (c .y) (c .z)) a ≡ length (answerNumbers a)
+    go zero lt = refl
+    go (suc zero) lt = refl
+    go (suc (suc zero)) lt = refl
+    go (suc (suc (suc zero))) lt = refl
+    go (suc (suc (suc (suc zero)))) lt = refl
+    go (suc (suc (suc (suc (suc zero))))) lt = refl
+    go (suc (suc (suc (suc (suc (suc kind)))))) lt = absurd (omega arith)
+
+pub room-of-load : (c : CallNumbers) (a : Answer (List ℕ)) → c .kind ≡ 6 → roomFor (callOf c) a ≡ 3
+unfolding callWith
+room-of-load c a kind = rw kind

@@ -11,7 +11,7 @@ use lib.ListN.{length, getD, drop, length-drop}
 use borrow.Author.Tests.{le-leb, lt-leb, leb-true}
 use Rattle.trace.specs.Trace.{onBytes}
 use Rattle.replay.specs.declared.calls.CallNumbers.{CallNumbers}
-use Rattle.replay.specs.Numbers.{kinds, isCall, callsIn, answerNumbers}
+use Rattle.replay.specs.Numbers.{kinds, isCall, callsIn, answerNumbers, roomFor}
 use Rattle.replay.specs.ContractsOfPlay.{nothing, play}
 use Rattle.replay.specs.ContractsOfSteps.{callOf, BeginsWith, RanAs, RanNext}
 
@@ -22,7 +22,8 @@ call-within xs e =
     let a = and-eq-true-iff (leb 2 (length xs)) _ .0 e in
     let b = and-eq-true-iff (ltb (getD xs 0 0) (length kinds)) _ .0 (a .1) in
     let c = and-eq-true-iff (eqb (getD xs 1 0) (getD kinds (getD xs 0 0) 0)) _ .0 (b .1) in
-    leb-true _ _ (c .1)
+    let d = and-eq-true-iff (leb (2 + getD xs 1 0) (length xs)) _ .0 (c .1) in
+    leb-true _ _ (d .0)
 
 no-calls : (n : ℕ) (xs : List ℕ) → isCall xs ≡ false → callsIn n xs ≡ []
 unfolding callsIn
@@ -38,7 +39,7 @@ module _ (xs b out : List ℕ) where
   unfolding play
   play-no-call e n = rw (no-calls n xs e)
 
-  pub play-no-room : {call : CallNumbers} {k : ℕ} → BeginsWith xs call k → length out < length (answerNumbers (onBytes (callOf call) b .answer))
+  pub play-no-room : {call : CallNumbers} {k : ℕ} → BeginsWith xs call k → length out < roomFor (callOf call) (onBytes (callOf call) b .answer)
       → (n : ℕ) → play onBytes (callsIn n xs) (length out) b ≡ nothing b
   unfolding play callsIn
   play-no-room h lt zero = refl
@@ -51,7 +52,7 @@ module _ (xs b out : List ℕ) where
       record {
         numbers = answerNumbers (onBytes (callOf call) b .answer);
         written = r .answer;
-        played = λ n. rw (first-call n h, le-leb _ _ (r .answer .fits), r .answer .size, r .buffer);
+        played = λ n. rw (first-call n h, le-leb _ _ (r .room), r .answer .size, r .buffer);
         within = rw (h .size) (call-within xs (h .whole));
         some = omega arith;
       }

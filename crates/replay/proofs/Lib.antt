@@ -1,6 +1,8 @@
+-- What each row of numbers means.
+mod Claims
 -- Answers as numbers: an answer that is written, and the call that gave it.
 mod WrittenAnswers
--- Calls as numbers: what each kind has and calls; the call that a list of numbers begins with.
+-- Calls as numbers: the room that each kind needs; the call that a list of numbers begins with.
 mod CallKinds
 mod FirstCalls
 -- A replay: taken call by call it is the run of the calls that have room; in the midst of its list.

@@ -1,7 +1,7 @@
--- A replay taken call by call is the run of the calls that have room. How many have room follows from their answers alone; so on a
+-- A replay taken call by call is the run of the calls that have room. How many have room follows from them and their answers alone; so on a
 -- freshly made buffer, where the answers are the plain trace's by demand 3, as many run as on the plain trace, and they leave its bytes.
 use Prim.Native.Nat.{ℕ, _+_, _-_}
-use mathlib.Core.Path.{_≡_, sym, _∙_}
+use mathlib.Core.Path.{_≡_, refl, sym, _∙_}
 use mathlib.Core.Bool.{Bool, true, false, cond}
 use mathlib.Core.List.{List, [], _∷_, _++_}
 use native.Mathlib.Numerals.{add-one}
@@ -14,22 +14,22 @@ use Rattle.trace.specs.Plain.{bytes, fresh, onPlain}
 use Rattle.trace.specs.Claims.{MakeFit}
 use Rattle.trace.proofs.Claims.{demand3}
 use Rattle.trace.proofs.Laws.{run-none, run-more}
-use Rattle.replay.specs.Numbers.{callsOf, answerNumbers}
+use Rattle.replay.specs.Numbers.{callsOf, answerNumbers, roomFor}
 use Rattle.replay.specs.Replay.{fitting, answersNumbers, Left, Replayed}
 use Rattle.replay.specs.ContractsOfPlay.{Played, nothing, before, play}
 
 -- what the first n calls leave, taken at once
-abbrev atOnce : {C S : Type 0} → (C → S → After S) → List C → S → ℕ → Played S
+abbrev atOnce : {S : Type 0} → (Call → S → After S) → List Call → S → ℕ → Played S
 atOnce step cs s n =
     record { ran = n; answers = answersNumbers (run step (take n cs) s .answers); state = run step (take n cs) s .state }
 
-play-run : {C S : Type 0} (step : C → S → After S) (cs : List C) (room : ℕ) (s : S)
+play-run : {S : Type 0} (step : Call → S → After S) (cs : List Call) (room : ℕ) (s : S)
     → play step cs room s ≡ atOnce step cs s (fitting step cs room s)
 unfolding play fitting answersNumbers
 play-run step [] room s = rw (run-none step s)
 play-run {S = S} step (c ∷ cs) room s =
-    let size = length (answerNumbers (step c s .answer)) in
-    go (leb size room) _ _ (play-run step cs (room - size) (step c s .state))
+    let a = step c s .answer in
+    go (leb (roomFor c a) room) _ _ (play-run step cs (room - length (answerNumbers a)) (step c s .state))
   where
     go : (t : Bool) (rest : Played S) (n : ℕ) → rest ≡ atOnce step cs (step c s .state) n
         → cond t (before 1 (answerNumbers (step c s .answer)) rest) (nothing s) ≡ atOnce step (c ∷ cs) s (cond t (n + 1) 0)
@@ -38,15 +38,16 @@ play-run {S = S} step (c ∷ cs) room s =
 
 -- ---- on a freshly made buffer
 
--- how many answers of a list have room
-roomy : List (Answer (List ℕ)) → ℕ → ℕ
-roomy [] room = 0
-roomy (a ∷ rest) room = cond (leb (length (answerNumbers a)) room) (roomy rest (room - length (answerNumbers a)) + 1) 0
+-- how many calls of a list, with these answers, have room
+roomy : List Call → List (Answer (List ℕ)) → ℕ → ℕ
+roomy [] answers room = 0
+roomy (c ∷ cs) [] room = 0
+roomy (c ∷ cs) (a ∷ rest) room = cond (leb (roomFor c a) room) (roomy cs rest (room - length (answerNumbers a)) + 1) 0
 
-fitting-answers : {C S : Type 0} (step : C → S → After S) (cs : List C) (room : ℕ) (s : S)
-    → fitting step cs room s ≡ roomy (run step cs s .answers) room
+fitting-answers : {S : Type 0} (step : Call → S → After S) (cs : List Call) (room : ℕ) (s : S)
+    → fitting step cs room s ≡ roomy cs (run step cs s .answers) room
 unfolding fitting roomy
-fitting-answers step [] room s = rw (run-none step s)
+fitting-answers step [] room s = refl
 fitting-answers step (c ∷ cs) room s =
     rw (run-more step s c cs, fitting-answers step cs (room - length (answerNumbers (step c s .answer))) (step c s .state))
 

@@ -12,7 +12,7 @@ use Rattle.replay.specs.declared.calls.CallNumbers.{CallNumbers}
 use Rattle.replay.specs.declared.calls.Next.{Next}
 use Rattle.replay.specs.declared.answers.Written.{Written}
 use Rattle.replay.specs.declared.runs.NextRun.{NextRun}
-use Rattle.replay.specs.Numbers.{isCall, callWith, callsIn, answerNumbers}
+use Rattle.replay.specs.Numbers.{kinds, seedFits, isCall, callWith, callsIn, answerNumbers, roomFor}
 use Rattle.replay.specs.ContractsOfPlay.{nothing, before, play}
 
 -- the numbers that are written of an answer
@@ -29,10 +29,26 @@ pub record NumbersOf (a : Answer (List ℕ)) (r : AnswerNumbers) : Type 0 where
 abbrev pub callOf : CallNumbers → Call
 callOf c = callWith (c .kind) (c .x) (c .y) (c .z)
 
+-- the kinds of put, flip, mark and clear; of read and survey; of load
+abbrev pub IsChange : ℕ → Type 0
+IsChange kind = kind < 4
+
+abbrev pub IsQuery : ℕ → Type 0
+IsQuery kind = (4 ≤ kind) × (kind < 6)
+
+abbrev pub IsLoad : ℕ → Type 0
+IsLoad kind = kind ≡ 6
+
+-- a call's numbers are fit: its kind is known, and its seed, where it has one, is a 32-bit number
+pub record Fit (c : CallNumbers) : Type 0 where
+  pub kind : c .kind < length kinds
+  pub seed : seedFits (c .kind) (c .y) ≡ true
+
 -- the call that a list of numbers begins with, and how many of them it takes
 pub record BeginsWith (xs : List ℕ) (c : CallNumbers) (k : ℕ) : Type 0 where
   pub whole : isCall xs ≡ true
   pub named : c ≡ record { kind = getD xs 0 0; x = getD xs 2 0; y = getD xs 3 0; z = getD xs 4 0 }
+  pub fit : Fit c
   pub size : k ≡ 2 + getD xs 1 0
 
 abbrev pub NextIn : List ℕ → Next → Type 0
@@ -51,12 +67,13 @@ Writes xs out out′ Written.NoRoom = (length out < length xs) × (out′ ≡ ou
 
 -- a call that ran and whose answer was written, or one that did not run
 pub record RanAs (c : Call) (b out : List ℕ) (k : ℕ) (b′ out′ : List ℕ) : Type 0 where
+  pub room : roomFor c (onBytes c b .answer) ≤ length out
   pub answer : WrittenAs (answerNumbers (onBytes c b .answer)) out k out′
   pub buffer : b′ ≡ onBytes c b .state
 
 abbrev pub RunsCall : Call → List ℕ → List ℕ → List ℕ → List ℕ → Written → Type 0
 RunsCall c b out b′ out′ (Written.Numbers size) = RanAs c b out size b′ out′
-RunsCall c b out b′ out′ Written.NoRoom = (length out < length (answerNumbers (onBytes c b .answer))) × (b′ ≡ b) × (out′ ≡ out)
+RunsCall c b out b′ out′ Written.NoRoom = (length out < roomFor c (onBytes c b .answer)) × (b′ ≡ b) × (out′ ≡ out)
 
 -- a call that ran, before the others of its list
 pub record RanNext (xs b out : List ℕ) (size count : ℕ) (b′ out′ : List ℕ) : Type 0 where

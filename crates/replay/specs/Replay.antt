@@ -6,17 +6,17 @@ use Prim.Native.Nat.{ℕ, _+_, _-_}
 use lib.Dec.{leb}
 use lib.ListN.{length, take, drop}
 use Rattle.codes.specs.Answer.{Answer}
-use Rattle.trace.specs.Calls.{Making, After, Run, run}
+use Rattle.trace.specs.Calls.{Call, Making, After, Run, run}
 use Rattle.trace.specs.Trace.{onBytes, make}
 use Rattle.trace.specs.Plain.{bytes, fresh, onPlain}
 use Rattle.trace.specs.Claims.{MakeFit}
-use Rattle.replay.specs.Numbers.{callsOf, answerNumbers}
+use Rattle.replay.specs.Numbers.{callsOf, answerNumbers, roomFor}
 
--- how many calls of a list run: the first whose answer has no room, and all after it, do not
-unfoldable pub fitting : {C S : Type 0} → (C → S → After S) → List C → ℕ → S → ℕ
+-- how many calls of a list run: the first that lacks room, and all after it, do not
+unfoldable pub fitting : {S : Type 0} → (Call → S → After S) → List Call → ℕ → S → ℕ
 fitting step [] room s = 0
 fitting step (c ∷ cs) room s =
-    cond (leb (length (answerNumbers (step c s .answer))) room)
+    cond (leb (roomFor c (step c s .answer)) room)
     (fitting step cs (room - length (answerNumbers (step c s .answer))) (step c s .state) + 1)
     0
 
@@ -26,11 +26,11 @@ answersNumbers [] = []
 answersNumbers (a ∷ rest) = answerNumbers a ++ answersNumbers rest
 
 -- the run of the calls of a list that have room
-abbrev pub roomyRun : {C S : Type 0} → (C → S → After S) → List C → ℕ → S → Run S
+abbrev pub roomyRun : {S : Type 0} → (Call → S → After S) → List Call → ℕ → S → Run S
 roomyRun step cs room s = run step (take (fitting step cs room s) cs) s
 
 -- what a replay leaves, by a run: the answers' numbers begin the slice that was lent for them
-pub record Left {C S : Type 0} (layout : S → List ℕ) (step : C → S → After S) (cs : List C) (s : S)
+pub record Left {S : Type 0} (layout : S → List ℕ) (step : Call → S → After S) (cs : List Call) (s : S)
     (answers : List ℕ) (ran : ℕ) (b′ answers′ : List ℕ) : Type 0 where
   pub calls : ran ≡ fitting step cs (length answers) s
   pub buffer : b′ ≡ layout (roomyRun step cs (length answers) s .state)

@@ -1,5 +1,6 @@
 // Answers as numbers.
 use trace::Done;
+use trace::LoadAnswer;
 use trace::ReadAnswer;
 use trace::Refusal;
 use trace::Survey;
@@ -8,7 +9,7 @@ ghost use mathlib.Core.Path.{_≡_};
 ghost use Prim.Native.Nat.{_≤_};
 ghost use lib.ListN.{length};
 ghost use Rattle.codes.specs.Answer.{accepted, refused, mapAnswer};
-ghost use Rattle.trace.specs.Answers.{refusalNumber, doneAnswer, readAnswer, readingValues, surveyAnswer, surveyValues};
+ghost use Rattle.trace.specs.Answers.{refusalNumber, doneAnswer, loadAnswer, readAnswer, readingValues, surveyAnswer, surveyValues};
 ghost use Rattle.replay.specs.ContractsOfSteps.{numbersIn, NumbersOf, Writes};
 
 // An answer: the refusal's number or 0, the count of values, and the values, 0 past the last.
@@ -46,6 +47,20 @@ pub(crate) fn done_numbers(answer: Done) -> AnswerNumbers
             values: [0; 10],
         },
         Done::Refused(r) => refused_numbers(r),
+    }
+}
+
+// Of a load: the number handed back, or its refusal.
+pub(crate) fn load_numbers(answer: LoadAnswer) -> AnswerNumbers
+    ensures { λ o. ⌜ NumbersOf (loadAnswer answer) o × (o .count ≤ 1) ⌝ }
+{
+    match answer {
+        LoadAnswer::Loaded(number) => AnswerNumbers {
+            refusal: 0,
+            count: 1,
+            values: [number as u64, 0, 0, 0, 0, 0, 0, 0, 0, 0],
+        },
+        LoadAnswer::Refused(r) => refused_numbers(r),
     }
 }
 

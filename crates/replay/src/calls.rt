@@ -1,11 +1,30 @@
 // Calls as numbers.
 ghost use mathlib.Core.Path.{_≡_};
-ghost use lib.ListN.{getD};
-ghost use Rattle.replay.specs.Numbers.{kinds};
+ghost use Prim.Native.Nat.{_<_};
+ghost use lib.ListN.{length, getD};
+ghost use Rattle.replay.specs.Numbers.{kinds, seedFits};
 ghost use Rattle.replay.specs.ContractsOfSteps.{NextIn};
 
+// The kinds of calls.
+pub(crate) const PUT: u64 = 0;
+
+pub(crate) const FLIP: u64 = 1;
+
+pub(crate) const MARK: u64 = 2;
+
+pub(crate) const CLEAR: u64 = 3;
+
+pub(crate) const READ: u64 = 4;
+
+pub(crate) const SURVEY: u64 = 5;
+
+pub(crate) const LOAD: u64 = 6;
+
 // How many kinds of calls there are.
-const KINDS: u64 = 6;
+const KINDS: u64 = 7;
+
+// The first number that is no seed: a seed has 32 bits.
+const SEED_LIMIT: u64 = 4294967296;
 
 // A call: its kind and its numbers, 0 past the last.
 pub(crate) struct CallNumbers {
@@ -21,18 +40,30 @@ pub(crate) enum Next {
     Stop,
 }
 
-// How many numbers a kind of call has.
+// How many numbers a kind of call has: a survey none.
 fn count_of(kind: u64) -> u64
+    requires { ⌜ kind < length kinds ⌝ }
     ensures { λ r. ⌜ r ≡ getD kinds kind 0 ⌝ }
 {
     match kind {
-        0 => 3,
-        1 => 2,
-        2 => 2,
-        3 => 1,
-        4 => 1,
+        PUT => 3,
+        FLIP => 2,
+        MARK => 2,
+        CLEAR => 1,
+        READ => 1,
+        LOAD => 3,
         _ => 0,
     }
+}
+
+// Whether a call's second number is a 32-bit number, where it is a seed: a load's.
+fn seed_fits(kind: u64, y: u64) -> bool
+    ensures { λ r. ⌜ r ≡ seedFits kind y ⌝ }
+{
+    if kind == LOAD {
+        return y < SEED_LIMIT;
+    }
+    true
 }
 
 // The number at an index, 0 past the end.
@@ -63,11 +94,15 @@ pub(crate) fn next_call(xs: &[u64]) -> Next
     if xs.len() - 2 < count as usize {
         return Next::Stop;
     }
+    let y = number(xs, 3);
+    if !seed_fits(kind, y) {
+        return Next::Stop;
+    }
     Next::Call(
         CallNumbers {
             kind: kind,
             x: number(xs, 2),
-            y: number(xs, 3),
+            y: y,
             z: number(xs, 4),
         },
         2 + count as usize,

@@ -2,20 +2,24 @@
 use crate::answers::AnswerNumbers;
 use crate::answers::Written;
 use crate::answers::done_numbers;
+use crate::answers::load_numbers;
 use crate::answers::read_numbers;
 use crate::answers::survey_numbers;
 use crate::answers::write_answer;
 use crate::calls::CallNumbers;
+use crate::calls::FLIP;
+use crate::calls::LOAD;
+use crate::calls::MARK;
 use crate::calls::Next;
+use crate::calls::PUT;
+use crate::calls::READ;
+use crate::calls::SURVEY;
 use crate::calls::next_call;
 ghost use mathlib.Core.Path.{_≡_};
-ghost use Prim.Native.Nat.{_≤_, _<_};
+ghost use Prim.Native.Nat.{_≤_};
 ghost use Rattle.trace.specs.Trace.{onBytes};
-ghost use Rattle.replay.specs.ContractsOfSteps.{NumbersOf, callOf, RunsCall, RunsNext};
+ghost use Rattle.replay.specs.ContractsOfSteps.{NumbersOf, callOf, IsChange, IsQuery, IsLoad, Fit, RunsCall, RunsNext};
 ghost use Rattle.replay.specs.Replay.{Replayed};
-
-// The kind of a read. The kinds below it change a slot.
-const READ: u64 = 4;
 
 // How many numbers a call took and its answer has, or that no call ran.
 pub(crate) enum NextRun {
@@ -25,38 +29,48 @@ pub(crate) enum NextRun {
 
 // Runs a put, flip, mark or clear.
 fn run_change(b: &mut [u8], call: CallNumbers) -> AnswerNumbers
-    requires { ⌜ call .kind < 4 ⌝ }
+    requires { ⌜ IsChange (call .kind) ⌝ }
     ensures { λ r. ⌜ NumbersOf (onBytes (callOf call) (now (b .entry)) .answer) r × (r .count ≡ 0)
         × (now (b .exit) ≡ onBytes (callOf call) (now (b .entry)) .state) ⌝ }
 {
     let kind = call.kind;
-    if kind == 0 {
+    if kind == PUT {
         return done_numbers(trace::put(b, call.x, call.y, call.z));
     }
-    if kind == 1 {
+    if kind == FLIP {
         return done_numbers(trace::flip(b, call.x, call.y));
     }
-    if kind == 2 {
+    if kind == MARK {
         return done_numbers(trace::mark(b, call.x, call.y));
     }
     done_numbers(trace::clear(b, call.x))
 }
 
+// Runs a load.
+fn run_load(b: &mut [u8], call: CallNumbers) -> AnswerNumbers
+    requires { ⌜ IsLoad (call .kind) × Fit call ⌝ }
+    ensures { λ r. ⌜ NumbersOf (onBytes (callOf call) (now (b .entry)) .answer) r × (r .count ≤ 1)
+        × (now (b .exit) ≡ onBytes (callOf call) (now (b .entry)) .state) ⌝ }
+{
+    load_numbers(trace::load(b, call.x, call.y as u32, call.z))
+}
+
 // Runs a read or a survey, which change nothing.
 fn run_query(b: &[u8], call: CallNumbers) -> AnswerNumbers
-    requires { ⌜ 4 ≤ call .kind ⌝ }
+    requires { ⌜ IsQuery (call .kind) ⌝ }
     ensures { λ r. ⌜ NumbersOf (onBytes (callOf call) (now (b .entry)) .answer) r
         × (now (b .entry) ≡ onBytes (callOf call) (now (b .entry)) .state) ⌝ }
 {
     let kind = call.kind;
-    if kind == READ {
-        return read_numbers(trace::read(b, call.x));
+    if kind == SURVEY {
+        return survey_numbers(trace::survey(b));
     }
-    survey_numbers(trace::survey(b))
+    read_numbers(trace::read(b, call.x))
 }
 
-// Runs a call whose answer has room in `out`, and no other.
+// Runs a call that has room in `out`, and no other. One that changes a slot has it where any answer to it has: two numbers, for a load three.
 fn run_call(b: &mut [u8], call: CallNumbers, out: &mut [u64]) -> Written
+    requires { ⌜ Fit call ⌝ }
     ensures { λ r. ⌜ RunsCall (callOf call) (now (b .entry)) (now (out .entry)) (now (b .exit)) (now (out .exit)) r ⌝ }
 {
     let kind = call.kind;
@@ -66,10 +80,16 @@ fn run_call(b: &mut [u8], call: CallNumbers, out: &mut [u64]) -> Written
         }
         return write_answer(out, run_change(b, call));
     }
-    write_answer(out, run_query(b, call))
+    if kind < LOAD {
+        return write_answer(out, run_query(b, call));
+    }
+    if out.len() < 3 {
+        return Written::NoRoom;
+    }
+    write_answer(out, run_load(b, call))
 }
 
-// Runs the call that a list of numbers begins with, if it is whole and its answer has room.
+// Runs the call that a list of numbers begins with, if it is whole and has room for its answer.
 fn run_next(b: &mut [u8], calls: &[u64], out: &mut [u64]) -> NextRun
     ensures { λ r. ⌜ RunsNext (now (calls .entry)) (now (b .entry)) (now (out .entry)) (now (b .exit)) (now (out .exit)) r ⌝ }
 {
@@ -82,7 +102,7 @@ fn run_next(b: &mut [u8], calls: &[u64], out: &mut [u64]) -> NextRun
     NextRun::Ran(size, count)
 }
 
-// Runs a list of calls while each is whole and its answer has room, and answers how many ran.
+// Runs a list of calls while each is whole and has room for its answer, a load for an accepted one's, and answers how many ran.
 pub fn replay(b: &mut [u8], calls: &[u64], answers: &mut [u64]) -> usize
     ensures { λ r. ⌜ Replayed (now (b .entry)) (now (calls .entry)) (now (answers .entry)) r (now (b .exit)) (now (answers .exit)) ⌝ }
 {

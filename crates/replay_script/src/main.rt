@@ -9,6 +9,7 @@
 //     put 0 74 2385      slot, step, reading
 //     flip 0 3           slot, position
 //     mark 0 35          slot, position
+//     load 0 1 3         slot, seed, count: `ok` with the number handed back
 //     clear 2            slot
 //     read 0             slot: `ok` with step, reading, wrong, marks
 //     survey             `ok` with blank, read, over, under, lost, bad, sum, smallest, largest, mean; `-` for what is absent

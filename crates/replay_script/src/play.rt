@@ -5,7 +5,7 @@ use lines::ANSWER;
 use lines::INPUT;
 use lines::Trouble;
 use lines::done_line;
-use lines::lent_line;
+use lines::number_line;
 use lines::trouble_line;
 use script::Call;
 use script::Command;
@@ -44,7 +44,7 @@ fn print_ok() {
 // Writes `ok` and the size of a file.
 fn print_size(size: usize) {
     let mut out = [0u8; ANSWER];
-    let end = lent_line(size as u64, &mut out);
+    let end = number_line(size as u64, &mut out);
     files::print(&out[..end]);
 }
 

@@ -1,6 +1,6 @@
 -- Calls on traces that are given byte for byte: the rows of refusals, what is stored and the lines are computed by their definitions. Mending is
 -- a search through all codewords: what a read and a survey find in the scope's example is what `lines` proved of it, and neither of them
--- changes a byte.
+-- changes a byte. The digits of a load's number, a large one, are what `lines` proved of it too.
 use mathlib.Core.Path.{_≡_, refl, _∙_, ap, ap₂}
 use mathlib.Core.List.{List}
 use Prim.Native.Nat.{ℕ}
@@ -13,6 +13,7 @@ use Rattle.codes.specs.Codes.{projection}
 use Rattle.codes.proofs.Claims.{one-message}
 use Rattle.trace.specs.Calls.{outcome, read}
 use Rattle.trace.specs.Layout.{bytesOf, numberFrom, part, overwrite, trailer, placeFrom, storeAt, made}
+use Rattle.trace.specs.Load.{drawn, handedBack}
 use Rattle.trace.specs.Refusals.{isFit, isBad}
 use Rattle.trace.specs.Rules.{gives}
 use Rattle.trace.specs.Trace.{contentWith, viewIn, refusalsIn, stored, onBytes, make}
@@ -47,7 +48,7 @@ reads slot line e = ap₂ with-line e (leaves (unless (refusalsIn (read slot) ex
 pub calls-answer : CallsAnswer
 unfolding
     answered make made trailer bytesOf onBytes viewIn contentWith part numberFrom placeFrom isFit isBad stored storeAt overwrite
-    noted each decimal digits bytesLine hex
+    drawn handedBack noted each decimal digits bytesLine hex
 calls-answer =
     record {
       make = refl;
@@ -57,9 +58,11 @@ calls-answer =
       flip = refl;
       mark = refl;
       noSlot = refl;
+      load = ap₂ with-line (answer-lines .load) refl;
+      tooMany = refl;
       clear = refl;
       read = reads 0 _ (ap answerLine (reads-alone exampleFile 0) ∙ answer-lines .read);
       blank = reads 1 _ (ap answerLine (reads-alone exampleFile 1) ∙ answer-lines .blank);
-      survey = ap (λ (line : List ℕ). with-line line exampleFile) (answer-lines .survey);
+      survey = ap₂ with-line (answer-lines .survey) refl;
       bytes = refl;
     }

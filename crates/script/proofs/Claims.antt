@@ -18,6 +18,7 @@ lines-mean =
       put = refl;
       flip = refl;
       mark = refl;
+      load = refl;
       clear = refl;
       read = refl;
       survey = refl;
@@ -37,6 +38,9 @@ lines-mean =
       more = refl;
       largest = refl;
       tooLarge = refl;
+      noCount = refl;
+      largestSeed = refl;
+      tooLargeSeed = refl;
     }
 
 pub lines-lend : LinesLend

@@ -1,7 +1,7 @@
 -- What a call of a script makes of the lent bytes, and the line that it is answered with: by what the trace call answers and leaves.
 use mathlib.Core.List.{List}
 use Prim.Native.Nat.{ℕ}
-use Rattle.trace.specs.Calls.{After, put, flip, mark, clear, read}
+use Rattle.trace.specs.Calls.{After, put, flip, mark, load, clear, read}
 use Rattle.trace.specs.Trace.{onBytes, make, surveyIn}
 use Rattle.lines.specs.Answers.{answerLine, surveyLine, bytesLine}
 use Rattle.script.specs.declared.line.Call.{Call}
@@ -21,6 +21,7 @@ answered (Call.Make code slots) b = called (make (record { code = code; slots = 
 answered (Call.Put slot step reading) b = called (onBytes (put slot step reading) b)
 answered (Call.Flip slot position) b = called (onBytes (flip slot position) b)
 answered (Call.Mark slot position) b = called (onBytes (mark slot position) b)
+answered (Call.Load slot seed count) b = called (onBytes (load slot seed count) b)
 answered (Call.Clear slot) b = called (onBytes (clear slot) b)
 answered (Call.Read slot) b = called (onBytes (read slot) b)
 answered Call.Survey b = record { line = surveyLine (surveyIn b); bytes = b }

@@ -27,6 +27,7 @@ pub record LinesMean : Type 0 where
   pub put : meaning (text "put 0 74 2385") ≡ Command.Call (Call.Put 0 74 2385)
   pub flip : meaning (text "\tflip  0 \t 3 \r") ≡ Command.Call (Call.Flip 0 3)
   pub mark : meaning (text "mark 0 35") ≡ Command.Call (Call.Mark 0 35)
+  pub load : meaning (text "load 0 1 3") ≡ Command.Call (Call.Load 0 1 3)
   pub clear : meaning (text "clear 2") ≡ Command.Call (Call.Clear 2)
   pub read : meaning (text "read 0") ≡ Command.Call (Call.Read 0)
   pub survey : meaning (text "survey") ≡ Command.Call Call.Survey
@@ -46,6 +47,9 @@ pub record LinesMean : Type 0 where
   pub more : meaning (text "put 0 74 2385 1") ≡ Command.Unreadable
   pub largest : meaning (text "read 18446744073709551615") ≡ Command.Call (Call.Read 18446744073709551615)
   pub tooLarge : meaning (text "read 18446744073709551616") ≡ Command.Unreadable
+  pub noCount : meaning (text "load 0 1") ≡ Command.Unreadable
+  pub largestSeed : meaning (text "load 4294967296 4294967295 4294967296") ≡ Command.Call (Call.Load 4294967296 4294967295 4294967296)
+  pub tooLargeSeed : meaning (text "load 0 4294967296 3") ≡ Command.Unreadable
 
 -- what they lend, which file they name, and what lent bytes make of a buffer
 pub record LinesLend : Type 0 where
@@ -86,8 +90,8 @@ slotWith word marks = 1 ∷ 0 ∷ 0 ∷ 0 ∷ 0 ∷ word ∷ 0 ∷ 0 ∷ 0 ∷ 0
 abbrev pub blankSlot : List ℕ
 blankSlot = replicate 11 0
 
--- calls on a trace of one slot under code 2, byte for byte, where position 34 is the bit of value 2, and on the scope's example: each call's
--- line, and the bytes that it leaves
+-- calls on a trace of one slot under code 2, byte for byte, where positions 34, 16 and 15 are the bits of value 2, 80000 and 100000 (hexadecimal),
+-- and on the scope's example: each call's line, and the bytes that it leaves
 pub record CallsAnswer : Type 0 where
   pub make : answered (Call.Make 2 1) (replicate 21 0xFF) ≡ says "ok\n" (exampleBytes blankSlot)
   pub noRoom : answered (Call.Make 1 2) (replicate 21 0xFF) ≡ says "refused 7\n" (replicate 21 0xFF)
@@ -97,6 +101,9 @@ pub record CallsAnswer : Type 0 where
   pub flip : answered (Call.Flip 0 34) (exampleBytes (slotWith 5 8)) ≡ says "ok\n" (exampleBytes (slotWith 7 8))
   pub mark : answered (Call.Mark 0 34) (exampleBytes (slotWith 5 8)) ≡ says "ok\n" (exampleBytes (slotWith 5 10))
   pub noSlot : answered (Call.Mark 34 0) (exampleBytes (slotWith 5 8)) ≡ says "refused 9\n" (exampleBytes (slotWith 5 8))
+  pub load : answered (Call.Load 0 1 3) (exampleBytes (slotWith 5 8))
+      ≡ says "ok 2165703038\n" (exampleBytes (1 ∷ 0 ∷ 0 ∷ 0x18 ∷ 0 ∷ 7 ∷ 0 ∷ 0 ∷ 0 ∷ 0 ∷ 8 ∷ []))
+  pub tooMany : answered (Call.Load 0 1 37) (exampleBytes (slotWith 5 8)) ≡ says "refused 14\n" (exampleBytes (slotWith 5 8))
   pub clear : answered (Call.Clear 0) (exampleBytes (slotWith 5 8)) ≡ says "ok\n" (exampleBytes blankSlot)
   pub read : answered (Call.Read 0) exampleFile ≡ says "ok 74 2385 2 0\n" exampleFile
   pub blank : answered (Call.Read 1) exampleFile ≡ says "refused 11\n" exampleFile

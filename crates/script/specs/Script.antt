@@ -9,6 +9,7 @@ use Prim.Native.Nat.{ℕ, _+_, _-_, _*_, _^_, _≤_}
 use Prim.Native.String.{String}
 use lib.Dec.{leb, ltb, eqb}
 use lib.ListN.{length, take, drop}
+use Rattle.trace.specs.Load.{isSeed}
 use Rattle.script.specs.declared.numbers.Number.{Number}
 use Rattle.script.specs.declared.numbers.Numbers.{Numbers}
 use Rattle.script.specs.declared.line.Call.{Call}
@@ -150,6 +151,10 @@ abbrev pub fileCommand : Command → List ℕ → Command
 fileCommand command [] = Command.Unreadable
 fileCommand command (c ∷ cs) = command
 
+-- a load, whose seed 32 bits hold
+abbrev pub loadCommand : ℕ → ℕ → ℕ → Command
+loadCommand slot seed count = cond (isSeed seed) (Command.Call (Call.Load slot seed count)) Command.Unreadable
+
 -- a name, and the command that it gives
 pub record Row : Type 0 where
   pub name : List ℕ
@@ -167,7 +172,7 @@ abbrev pub numbered : Numbers → List Row
 numbered Numbers.None = call "survey" Call.Survey ∷ call "bytes" Call.Bytes ∷ []
 numbered (Numbers.One a) = row "buffer" (Command.Buffer a) ∷ call "clear" (Call.Clear a) ∷ call "read" (Call.Read a) ∷ []
 numbered (Numbers.Two a b) = call "make" (Call.Make a b) ∷ call "flip" (Call.Flip a b) ∷ call "mark" (Call.Mark a b) ∷ []
-numbered (Numbers.Three a b c) = call "put" (Call.Put a b c) ∷ []
+numbered (Numbers.Three a b c) = call "put" (Call.Put a b c) ∷ row "load" (loadCommand a b c) ∷ []
 numbered Numbers.Unreadable = []
 
 -- all commands, with this argument

@@ -3,6 +3,7 @@ use crate::line::Call;
 use lines::ANSWER;
 use lines::bytes_line;
 use lines::done_line;
+use lines::load_line;
 use lines::read_line;
 use lines::survey_line;
 ghost use mathlib.Core.Path.{_≡_};
@@ -20,6 +21,7 @@ pub fn answer(call: Call, b: &mut [u8], out: &mut [u8; ANSWER]) -> usize
         Call::Put(slot, step, reading) => done_line(trace::put(b, slot, step, reading), out),
         Call::Flip(slot, position) => done_line(trace::flip(b, slot, position), out),
         Call::Mark(slot, position) => done_line(trace::mark(b, slot, position), out),
+        Call::Load(slot, seed, count) => load_line(trace::load(b, slot, seed, count), out),
         Call::Clear(slot) => done_line(trace::clear(b, slot), out),
         Call::Read(slot) => read_line(trace::read(b, slot), out),
         Call::Survey => survey_line(trace::survey(b), out),

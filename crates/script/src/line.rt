@@ -8,7 +8,7 @@ use crate::parts::skip_blanks;
 use crate::parts::word_end;
 use check::same;
 ghost use mathlib.Core.Path.{_≡_};
-ghost use Rattle.script.specs.Script.{is, hexBytes, hexCommand, fileCommand, numbered, commands, chosen, spoken, meaning};
+ghost use Rattle.script.specs.Script.{is, hexBytes, hexCommand, fileCommand, loadCommand, numbered, commands, chosen, spoken, meaning};
 
 // A call on the lent bytes.
 pub enum Call {
@@ -19,6 +19,8 @@ pub enum Call {
     // Slot and position.
     Flip(u64, u64),
     Mark(u64, u64),
+    // Slot, seed and count.
+    Load(u64, u32, u64),
     // Slot.
     Clear(u64),
     Read(u64),
@@ -94,12 +96,25 @@ fn with_two(name: &[u8], a: u64, b: u64) -> Command
     Command::Unreadable
 }
 
-// The command with three numbers.
+// A load, where 32 bits hold its seed.
+fn with_seed(slot: u64, seed: u64, count: u64) -> Command
+    ensures { λ r. ⌜ r ≡ loadCommand slot seed count ⌝ }
+{
+    if (u32::MAX as u64) < seed {
+        return Command::Unreadable;
+    }
+    Command::Call(Call::Load(slot, seed as u32, count))
+}
+
+// The commands with three numbers.
 fn with_three(name: &[u8], a: u64, b: u64, c: u64) -> Command
     ensures { λ r. ⌜ r ≡ chosen (now (name .entry)) (numbered (Numbers.Three a b c)) ⌝ }
 {
     if says(name, b"put") {
         return Command::Call(Call::Put(a, b, c));
+    }
+    if says(name, b"load") {
+        return with_seed(a, b, c);
     }
     Command::Unreadable
 }

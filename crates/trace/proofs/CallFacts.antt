@@ -1,16 +1,16 @@
 -- What is particular to each call, in one table: the numbers of its refusals, in order, and on a plain trace; that it gives values where none of
--- them is met; and, where a sound plain trace accepts it, that it leaves on the bytes the bytes of what it leaves of the plain trace, which is sound and has the same code. No other
--- proof goes by the calls. A call that changes one slot stores there what the new slot holds; its rows say that the slot is there and that
--- its numbers fit. A plain slot is never bad, so 10 isn't met.
-use Prim.Native.Nat.{ℕ, _<_}
+-- them is met; and, where a sound plain trace accepts it, that it leaves on the bytes the bytes of what it leaves of the plain trace, which is sound
+-- and has the same code. No other proof goes by the calls. A call that changes one slot stores there what the new slot holds; its rows say that the
+-- slot is there and that its numbers fit. A plain slot is never bad, so 10 isn't met.
+use Prim.Native.Nat.{ℕ, _<_, _≤_}
 use mathlib.Core.Path.{_≡_, refl, sym, _∙_}
 use mathlib.Core.Bool.{Bool, true, false, _||_, false≢true}
 use mathlib.Core.List.{List, [], _∷_}
 use mathlib.Core.Option.{Option, none, some}
 use native.Mathlib.Omega.{arith}
 use lib.Dec.{leb}
-use lib.ListN.{length}
-use borrow.Author.Tests.{leb-false}
+use lib.ListN.{length, getD}
+use borrow.Author.Tests.{leb-false, ltb-false}
 use Rattle.codes.specs.declared.answer.Correction.{Correction}
 use Rattle.codes.specs.Answer.{Answer, accepted, Row, unless, mapAnswer, Passes, Refuses}
 use Rattle.codes.specs.Projection.{Projection, width}
@@ -20,24 +20,27 @@ use Rattle.codes.specs.Claims.{Among, numbers}
 use Rattle.codes.proofs.Rows.{accepted-row, passes-first, first-among}
 use Rattle.trace.specs.declared.slot.Content.{Content}
 use Rattle.trace.specs.Answers.{readingValues}
-use Rattle.trace.specs.Calls.{Call, put, flip, mark, clear, read, survey}
+use Rattle.trace.specs.Lists.{inTurn}
+use Rattle.trace.specs.Load.{positionsOf}
+use Rattle.trace.specs.Calls.{Call, put, flip, mark, load, clear, read, survey}
 use Rattle.trace.specs.View.{View, countOf, contentOf, messageOf, readingOf, readCorrected, readContent, flipContent, markContent}
-use Rattle.trace.specs.Refusals.{noSlot, holdsBad, badSlot, blankSlot, lostSlot, noPosition, tooLarge}
-use Rattle.trace.specs.Rules.{contentRows, bitRows, refusals, gives}
+use Rattle.trace.specs.Refusals.{noSlot, holdsBad, badSlot, holdsNothing, blankSlot, lostSlot, noPosition, tooLarge, tooMany}
+use Rattle.trace.specs.Rules.{contentRows, refusals, gives}
 use Rattle.trace.specs.Trace.{projectionIn, viewIn, stored, leaves}
 use Rattle.trace.specs.Plain.{Slot, Plain, projectionOf, slotOf, withSlot, holds, viewOf, bytes, flipped, marked, plainLeaves}
 use Rattle.trace.specs.Claims.{numbersOf}
-use Rattle.trace.proofs.Among.{among-within}
+use Rattle.trace.proofs.Among.{has, among-within}
 use Rattle.trace.proofs.Views.{plain-code, plain-count, plain-content}
 use Rattle.trace.proofs.Stored.{Fits, Sound, projection-in, store-slot, seen-alike}
 use Rattle.trace.proofs.Words.{message-lt}
-use Rattle.trace.proofs.PlainSlots.{put-holds, flip-holds, mark-holds, put-fits, flip-fits, mark-fits, sound-with}
+use Rattle.trace.proofs.LoadLaws.{load-draws}
+use Rattle.trace.proofs.PlainSlots.{put-holds, flip-holds, flips-hold, mark-holds, put-fits, flip-fits, flips-fit, mark-fits, sound-with}
 
 -- ---- the table's columns
 
--- 'Refusals 9, 11, 12 and 13 follow from its slots and the call's numbers, 5 from mending'
+-- 'Refusals 9, 11, 12 and 13 follow from its slots and the call's numbers, 5 from mending', and so does 14
 abbrev pub plainNumbers : List ℕ
-plainNumbers = 5 ∷ 9 ∷ 11 ∷ 12 ∷ 13 ∷ []
+plainNumbers = 5 ∷ 9 ∷ 11 ∷ 12 ∷ 13 ∷ 14 ∷ []
 
 -- bytes and a plain trace that a call left of a plain trace and its bytes
 pub record Left (p : Plain) (b : List ℕ) (q : Plain) : Type 0 where
@@ -87,47 +90,65 @@ module _ (slot step reading : ℕ) where
       let fits = message-lt (codeOf (p .code)) step reading (leb-false _ step (both .0)) (leb-false 4096 reading (both .1)) in
       changed p s slot (inside .0) (Slot.written (messageOf step reading) 0 0) (put-fits π _ fits) _ (rw (projection-in p s, put-holds π))
 
--- ---- flip and mark
+-- ---- flip, mark and load
 
--- the rows of both
-abbrev rowsOf : View → ℕ → ℕ → List Row
-rowsOf v slot position = noSlot (countOf v) slot ∷ bitRows (v .code) (contentOf v slot) position
+-- the rows of all three: those of a written slot, and a last one
+abbrev pub rowsOf : View → ℕ → Row → List Row
+rowsOf v slot last = noSlot (countOf v) slot ∷ badSlot (contentOf v slot) ∷ blankSlot (contentOf v slot) ∷ last ∷ []
 
 -- a plain slot is never bad
-never-bad : (p : Plain) (slot : ℕ) → holdsBad (contentOf (viewOf p) slot) ≡ false
+pub never-bad : (p : Plain) (slot : ℕ) → holdsBad (contentOf (viewOf p) slot) ≡ false
 never-bad p slot = rw (plain-content p slot) (go (slotOf p slot))
   where
     go : (x : Slot) → holdsBad (holds (projectionOf p) x) ≡ false
     go Slot.blank = refl
     go (Slot.written m F M) = refl
 
-module _ (p : Plain) (slot position : ℕ) where
-  bit-refused : (n : ℕ) → Refuses (rowsOf (viewOf p) slot position) n → Among n plainNumbers
-  bit-refused n e =
-      let rows = noSlot (countOf (viewOf p)) slot ∷ blankSlot (contentOf (viewOf p) slot) ∷ noPosition (viewOf p .code) position ∷ [] in
-      among-within (9 ∷ 11 ∷ 12 ∷ []) plainNumbers refl n (first-among rows n (rw (never-bad p slot) at e))
+-- what a call that is accepted with some values has passed, before what it gives
+pub record Passed (p : Plain) (slot : ℕ) (last : Row) (a : Answer (List ℕ)) (vs : List ℕ) : Type 0 where
+  pub there : slot < length (p .slots)
+  pub written : holdsNothing (contentOf (viewOf p) slot) ≡ false
+  pub unmet : last .met ≡ false
+  pub given : a ≡ accepted vs
 
-  pub bit-passed : (vs : List ℕ) → unless {A = List ℕ} (rowsOf (viewOf p) slot position) (accepted []) ≡ accepted vs
-      → (slot < length (p .slots)) × (position < width (projectionOf p))
-  bit-passed vs e =
+module _ (p : Plain) (slot : ℕ) (last : Row) where
+  written-refused : has plainNumbers (last .number) ≡ true → (n : ℕ) → Refuses (rowsOf (viewOf p) slot last) n → Among n plainNumbers
+  written-refused listed n e =
+      let rows = noSlot (countOf (viewOf p)) slot ∷ blankSlot (contentOf (viewOf p) slot) ∷ last ∷ [] in
+      among-within (9 ∷ 11 ∷ last .number ∷ []) plainNumbers (rw listed) n (first-among rows n (rw (never-bad p slot) at e))
+
+  pub written-passed : (a : Answer (List ℕ)) (vs : List ℕ) → unless (rowsOf (viewOf p) slot last) a ≡ accepted vs → Passed p slot last a vs
+  written-passed a vs e =
       let v = viewOf p in
       let inside = there p slot _ vs e in
       let fine = accepted-row (badSlot (contentOf v slot)) _ vs (inside .1) in
       let full = accepted-row (blankSlot (contentOf v slot)) _ vs (fine .1) in
-      (inside .0, leb-false _ position (rw plain-code at (accepted-row (noPosition (v .code) position) _ vs (full .1) .0)))
+      let end = accepted-row last _ vs (full .1) in
+      record { there = inside .0; written = full .0; unmet = end .0; given = end .1 }
 
--- what both leave, by what each makes of a slot and of a content
-module _ (f : Projection → ℕ → Slot → Slot) (g : Projection → ℕ → Content → Content)
-    (held : (π : Projection) (position : ℕ) (x : Slot) → holds π (f π position x) ≡ g π position (holds π x))
-    (fits : (π : Projection) (position : ℕ) → position < width π → (x : Slot) → Fits π x → Fits π (f π position x)) where
-  bit-left : (slot position : ℕ) (p : Plain) → Sound p → (vs : List ℕ) → unless (rowsOf (viewOf p) slot position) (accepted []) ≡ accepted vs
-      → Left p (stored slot (g (projectionIn (bytes p)) position (contentOf (viewIn (bytes p)) slot)) (bytes p))
-      (withSlot slot (f (projectionOf p) position (slotOf p slot)) p)
-  bit-left slot position p s vs e =
+-- a flip's and a mark's position is in the word, and a load's count is not above its width
+pub position-inside : (p : Plain) (position : ℕ) → noPosition (viewOf p .code) position .met ≡ false → position < width (projectionOf p)
+position-inside p position e = leb-false _ position (rw plain-code at e)
+
+pub count-fits : (p : Plain) (k : ℕ) → tooMany (viewOf p .code) k .met ≡ false → k ≤ width (projectionOf p)
+count-fits p k e = ltb-false _ k (rw plain-code at e)
+
+-- what all three leave, by what each makes of a slot and of a content
+module _ (f : Projection → Slot → Slot) (g : Projection → Content → Content) (last : Projection → Row) (a : Answer (List ℕ))
+    (held : (π : Projection) (x : Slot) → holds π (f π x) ≡ g π (holds π x))
+    (fits : (p : Plain) → last (viewOf p .code) .met ≡ false → (x : Slot) → Fits (projectionOf p) x → Fits (projectionOf p) (f (projectionOf p) x)) where
+  written-left : (slot : ℕ) (p : Plain) → Sound p → (vs : List ℕ) → unless (rowsOf (viewOf p) slot (last (viewOf p .code))) a ≡ accepted vs
+      → Left p (stored slot (g (projectionIn (bytes p)) (contentOf (viewIn (bytes p)) slot)) (bytes p))
+      (withSlot slot (f (projectionOf p) (slotOf p slot)) p)
+  written-left slot p s vs e =
       let π = projectionOf p in
-      let passed = bit-passed p slot position vs e in
-      changed p s slot (passed .0) (f π position (slotOf p slot)) (fits π position (passed .1) (slotOf p slot) (s .slots slot)) _
+      let passed = written-passed p slot (last (viewOf p .code)) a vs e in
+      changed p s slot (passed .there) (f π (slotOf p slot)) (fits p (passed .unmet) (slotOf p slot) (s .slots slot)) _
       (rw (projection-in p s, seen-alike p s, plain-content p slot, held π))
+
+-- the positions of a load are the word's
+pub drawn-inside : (π : Projection) (seed k : ℕ) → k ≤ width π → (i : ℕ) → i < length (positionsOf π seed k) → getD (positionsOf π seed k) i 0 < width π
+drawn-inside π seed k h i inside = let draws = load-draws π seed k h in draws .inside i (rw (draws .count) at inside)
 
 -- ---- read
 
@@ -170,15 +191,29 @@ facts (flip slot position) =
     record {
       ordered = λ v. refl;
       accepts = λ v t. done;
-      plainly = λ p. bit-refused p slot position;
-      left = bit-left flipped flipContent flip-holds flip-fits slot position;
+      plainly = λ p. written-refused p slot (noPosition (viewOf p .code) position) refl;
+      left =
+          written-left (λ π. flipped π position) (λ π. flipContent π position) (λ π. noPosition π position) _ (λ π. flip-holds π position)
+          (λ p e. flip-fits (projectionOf p) position (position-inside p position e)) slot;
     }
 facts (mark slot position) =
     record {
       ordered = λ v. refl;
       accepts = λ v t. done;
-      plainly = λ p. bit-refused p slot position;
-      left = bit-left marked markContent mark-holds mark-fits slot position;
+      plainly = λ p. written-refused p slot (noPosition (viewOf p .code) position) refl;
+      left =
+          written-left (λ π. marked π position) (λ π. markContent π position) (λ π. noPosition π position) _ (λ π. mark-holds π position)
+          (λ p e. mark-fits (projectionOf p) position (position-inside p position e)) slot;
+    }
+facts (load slot seed k) =
+    record {
+      ordered = λ v. refl;
+      accepts = λ v t. (_, refl);
+      plainly = λ p. written-refused p slot (tooMany (viewOf p .code) k) refl;
+      left =
+          written-left (λ π. inTurn (flipped π) (positionsOf π seed k)) (λ π. inTurn (flipContent π) (positionsOf π seed k)) (λ π. tooMany π k)
+          _ (λ π. flips-hold π (positionsOf π seed k))
+          (λ p e. flips-fit (projectionOf p) (positionsOf (projectionOf p) seed k) (drawn-inside (projectionOf p) seed k (count-fits p k e))) slot;
     }
 facts (clear slot) =
     record {

@@ -8,3 +8,5 @@ pub use Rattle.trace.proofs.LayoutExamples.{layout-example}
 pub use Rattle.trace.proofs.Readings.{reads-alone, survey-gives}
 pub use Rattle.trace.proofs.SurveyLaws.{survey-honest, survey-slots}
 pub use Rattle.trace.proofs.PlainCalls.{plain-calls, last-put}
+pub use Rattle.trace.proofs.LoadLaws.{load-draws, load-example}
+pub use Rattle.trace.proofs.LoadClaims.{load-is-flips, load-in-use, load-meets-as-flip}

@@ -2,14 +2,18 @@
 pub mod Claims
 pub mod Laws
 pub mod Among
--- Numbers in bytes, and parts of a buffer that are read and written over; exclusive or is associative.
+-- Numbers in bytes, and parts of a buffer that are read and written over; exclusive or is associative; lists of different numbers.
 mod Numbers
 mod Parts
 mod Xor
+mod Distinct
 -- The layout, for any slots' bytes: what is read at a slot's place and what storing there makes of them; the trailer; one trace byte for byte.
 mod Slots
 mod Trailers
 mod LayoutExamples
+-- A fault load: the positions that it draws, and the word that the code picks them in.
+mod LoadLaws
+mod PickLaws
 -- What an answer leaves.
 mod Outcomes
 -- The steps of a call: what it sees of a buffer, how it comes to its slot, what the slot holds, what it takes from the word calls, a change.
@@ -38,5 +42,6 @@ mod TraceRows
 mod Demand1
 mod Demand2
 mod Demand3
--- What demand 3 shuts out.
+-- What demand 3 shuts out; a load counts as its flips.
 mod Strength
+mod LoadClaims

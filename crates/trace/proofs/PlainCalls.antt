@@ -1,29 +1,35 @@
 -- What calls make of the plain trace. An accepted call leaves what its definition says, with another slot in the place of its own, which its rows say is
 -- there; a refused one leaves the trace. So a message that was put stays in its slot through any list of calls of which none overwrites
 -- it: by induction on the list, each call leaves the slot, or changes its F or M.
-use Prim.Native.Nat.{ℕ, _<_}
+use Prim.Native.Nat.{ℕ, _<_, _≤_}
 use mathlib.Core.Path.{_≡_, refl, sym, ap, _∙_}
 use mathlib.Core.Bool.{Bool, true, false}
 use mathlib.Core.List.{List, [], _∷_}
 use lib.Dec.{eqb}
 use lib.ListN.{length, length-set, length-replicate}
 use lib.Seq.{getD-set-same, getD-set-other}
-use borrow.Author.Tests.{eqb-true, eqb-false, lt-leb}
+use lib.Bits.{bitXor}
+use borrow.Author.Tests.{eqb-true, eqb-false, lt-leb, lt-ltb, le-ltb}
 use Rattle.codes.specs.Answer.{Answer, accepted, refused, unless}
-use Rattle.codes.specs.Projection.{Projection}
+use Rattle.codes.specs.Projection.{Projection, width}
 use Rattle.codes.specs.Word.{bit}
 use Rattle.codes.proofs.Rows.{not-refused}
-use Rattle.trace.specs.Calls.{Call, put, flip, mark, clear, read, survey, Making, outcome, run}
+use Rattle.trace.specs.Lists.{inTurn}
+use Rattle.trace.specs.Calls.{Call, put, flip, mark, load, clear, read, survey, Making, outcome, run}
+use Rattle.trace.specs.Load.{positionsOf, handedBack}
+use Rattle.trace.specs.Refusals.{noPosition, tooMany}
 use Rattle.trace.specs.View.{messageOf}
 use Rattle.trace.specs.Rules.{refusals, gives}
-use Rattle.trace.specs.Plain.{Slot, Plain, projectionOf, slotOf, withSlot, viewOf, fresh, marked, plainLeaves, onPlain}
+use Rattle.trace.specs.Plain.{Slot, Plain, projectionOf, slotOf, withSlot, viewOf, fresh, flipped, marked, plainLeaves, onPlain}
+use Rattle.trace.specs.ContractsOfLoad.{toggle}
 use Rattle.trace.specs.Claims.{SlotBecame, Toggled, Added, PlainCalls, Overwrites, Kept, plainAfter, LastPut}
 use Rattle.trace.proofs.Outcomes.{outcome-answer, outcome-same, outcome-refused}
-use Rattle.trace.proofs.Views.{plain-count, plain-content}
+use Rattle.trace.proofs.Views.{plain-code, plain-count, plain-content}
 use Rattle.trace.proofs.Makings.{all-blank}
 use Rattle.trace.proofs.Runs.{run-append}
-use Rattle.trace.proofs.CallFacts.{there, bit-passed}
+use Rattle.trace.proofs.CallFacts.{there, written-passed, position-inside}
 use Rattle.trace.proofs.Sets.{or-twice, toggled, added}
+use Rattle.trace.proofs.PickLaws.{in-turn}
 
 -- ---- one call
 
@@ -38,7 +44,7 @@ became p slot x h =
     }
 
 -- an accepted call has passed its rows, and leaves what it says
-accepted-leaves : (c : Call) (p : Plain) (vs : List ℕ) → onPlain c p .answer ≡ accepted vs
+pub accepted-leaves : (c : Call) (p : Plain) (vs : List ℕ) → onPlain c p .answer ≡ accepted vs
     → (unless (refusals c (viewOf p)) (gives c (viewOf p)) ≡ accepted vs) × (onPlain c p .state ≡ plainLeaves c p)
 unfolding onPlain
 accepted-leaves c p vs e = go (unless (refusals c (viewOf p)) (gives c (viewOf p))) e
@@ -65,15 +71,37 @@ module _ (p : Plain) (slot : ℕ) where
         → (F′ : ℕ) × Toggled (projectionOf p) position F F′ × SlotBecame p slot (Slot.written m F′ M) (onPlain (flip slot position) p .state)
     flips e =
         let u = accepted-leaves (flip slot position) p vs e in
-        let passed = bit-passed p slot position vs (u .0) in
-        (_, toggled (projectionOf p) position F (passed .1), rw (u .1, written) (became p slot _ (passed .0)))
+        let passed = written-passed p slot (noPosition (viewOf p .code) position) _ vs (u .0) in
+        (_, toggled (projectionOf p) position F (position-inside p position (passed .unmet)), rw (u .1, written) (became p slot _ (passed .there)))
 
     marks : onPlain (mark slot position) p .answer ≡ accepted vs
         → (M′ : ℕ) × Added (projectionOf p) position M M′ × SlotBecame p slot (Slot.written m F M′) (onPlain (mark slot position) p .state)
     marks e =
         let u = accepted-leaves (mark slot position) p vs e in
-        let passed = bit-passed p slot position vs (u .0) in
-        (_, added (projectionOf p) position M (passed .1), rw (u .1, written) (became p slot _ (passed .0)))
+        let passed = written-passed p slot (noPosition (viewOf p .code) position) _ vs (u .0) in
+        (_, added (projectionOf p) position M (position-inside p position (passed .unmet)), rw (u .1, written) (became p slot _ (passed .there)))
+
+  -- a load changes F alone
+  module _ (seed k m F M : ℕ) (written : slotOf p slot ≡ Slot.written m F M) (vs : List ℕ) where
+    loads : onPlain (load slot seed k) p .answer ≡ accepted vs
+        → (F′ : ℕ) × SlotBecame p slot (Slot.written m F′ M) (onPlain (load slot seed k) p .state)
+    loads e =
+        let u = accepted-leaves (load slot seed k) p vs e in
+        let passed = written-passed p slot (tooMany (viewOf p .code) k) _ vs (u .0) in
+        let π = projectionOf p in
+        let ps = positionsOf (projectionOf p) seed k in
+        let flipped-all = in-turn (width π) (flipped π) (λ x. Slot.written m x M) (λ q x. refl) ps F in
+        (bitXor F (inTurn (toggle (width π)) ps 0), rw (u .1, written, flipped-all) (became p slot _ (passed .there)))
+
+  -- by its count
+  module _ (seed k m F M : ℕ) (there : slot < length (p .slots)) (written : slotOf p slot ≡ Slot.written m F M) where
+    load-fits : k ≤ width (projectionOf p) → onPlain (load slot seed k) p .answer ≡ accepted (handedBack k seed ∷ [])
+    unfolding onPlain
+    load-fits few = rw (outcome-answer, plain-count p, lt-leb _ _ there, plain-content p slot, written, plain-code p, le-ltb _ _ few)
+
+    overloads : width (projectionOf p) < k → onPlain (load slot seed k) p .answer ≡ refused 14
+    unfolding onPlain
+    overloads many = rw (outcome-answer, plain-count p, lt-leb _ _ there, plain-content p slot, written, plain-code p, lt-ltb _ _ many)
 
 reads : (p : Plain) (slot : ℕ) → onPlain (read slot) p .state ≡ p
 unfolding onPlain
@@ -83,7 +111,7 @@ surveys : (p : Plain) → onPlain survey p .state ≡ p
 unfolding onPlain
 surveys p = refl
 
-refused-keeps : (c : Call) (p : Plain) (n : ℕ) → onPlain c p .answer ≡ refused n → onPlain c p .state ≡ p
+pub refused-keeps : (c : Call) (p : Plain) (n : ℕ) → onPlain c p .answer ≡ refused n → onPlain c p .state ≡ p
 unfolding onPlain
 refused-keeps c p n e = outcome-refused (unless (refusals c (viewOf p)) (gives c (viewOf p))) (plainLeaves c p) p n e .1
 
@@ -93,7 +121,7 @@ again π position Slot.blank = refl
 again π position (Slot.written m F M) = ap (Slot.written m F) (or-twice M (bit π position))
 
 -- 11: the slot is there, and blank
-module _ (p : Plain) (slot position : ℕ) (there : slot < length (p .slots)) (blank : slotOf p slot ≡ Slot.blank) where
+module _ (p : Plain) (slot position seed k : ℕ) (there : slot < length (p .slots)) (blank : slotOf p slot ≡ Slot.blank) where
   read-blank : onPlain (read slot) p .answer ≡ refused 11
   unfolding onPlain
   read-blank = rw (outcome-answer, plain-count p, lt-leb _ _ there, plain-content p slot, blank)
@@ -106,6 +134,10 @@ module _ (p : Plain) (slot position : ℕ) (there : slot < length (p .slots)) (b
   unfolding onPlain
   mark-blank = rw (outcome-answer, plain-count p, lt-leb _ _ there, plain-content p slot, blank)
 
+  load-blank : onPlain (load slot seed k) p .answer ≡ refused 11
+  unfolding onPlain
+  load-blank = rw (outcome-answer, plain-count p, lt-leb _ _ there, plain-content p slot, blank)
+
 made-blank : (found : List ℕ) (m : Making) → (length (fresh m found .slots) ≡ m .slots) × ((slot : ℕ) → slotOf (fresh m found) slot ≡ Slot.blank)
 unfolding fresh
 made-blank found m = (length-replicate (m .slots) Slot.blank, all-blank (m .slots))
@@ -114,11 +146,22 @@ pub plain-calls : PlainCalls
 plain-calls =
     record {
       made = made-blank;
-      blanks = λ p slot position there blank.
-          (read-blank p slot position there blank, (flip-blank p slot position there blank, mark-blank p slot position there blank));
+      blanks =
+          λ p slot position seed k there blank. (
+            read-blank p slot position seed k there blank,
+            (
+              flip-blank p slot position seed k there blank,
+              (mark-blank p slot position seed k there blank, load-blank p slot position seed k there blank),
+            ),
+          );
       puts = λ p slot step reading e. puts p slot step reading [] e;
       flips = λ p slot position m F M written e. flips p slot position m F M written [] e;
       marks = λ p slot position m F M written e. marks p slot position m F M written [] e;
+      loads =
+          λ p slot seed k m F M there written few.
+          let e = load-fits p slot seed k m F M there written few in
+          (e, loads p slot seed k m F M written _ e);
+      overloads = overloads;
       again = again;
       clears = λ p slot e. clears p slot [] e;
       reads = reads;
@@ -153,6 +196,9 @@ module _ (slot m : ℕ) where
   accepted-has (mark other position) p vs e stays h =
       by-slot p _ other _ (accepted-leaves (mark other position) p vs e .1) h
       (λ same. let b = marks p other position m (h .0) (h .1) (rw (← same) (h .2)) vs e in (h .0, b .0, rw same (b .2 .own)))
+  accepted-has (load other seed k) p vs e stays h =
+      by-slot p _ other _ (accepted-leaves (load other seed k) p vs e .1) h
+      (λ same. let b = loads p other seed k m (h .0) (h .1) (rw (← same) (h .2)) vs e in (b .0, h .1, rw same (b .1 .own)))
   accepted-has (read other) p vs e stays h = rw (reads p other) h
   accepted-has survey p vs e stays h = rw (surveys p) h
 

@@ -64,10 +64,10 @@ module _ (set j k : ℕ) where
   digit-lt : set / 2 ^ k % 2 < 2
   digit-lt = omega arith
 
-  xor-own : j ≡ k → bitXor set (2 ^ j) / 2 ^ k % 2 ≡ 1 - set / 2 ^ k % 2
+  pub xor-own : j ≡ k → bitXor set (2 ^ j) / 2 ^ k % 2 ≡ 1 - set / 2 ^ k % 2
   xor-own e = rw (e, xor-shr set (2 ^ k) k, lowest (set / 2 ^ k) (2 ^ k / 2 ^ k), own-digit k) (differ-one (set / 2 ^ k % 2) digit-lt)
 
-  xor-other : (j ≡ k → ⊥) → bitXor set (2 ^ j) / 2 ^ k % 2 ≡ set / 2 ^ k % 2
+  pub xor-other : (j ≡ k → ⊥) → bitXor set (2 ^ j) / 2 ^ k % 2 ≡ set / 2 ^ k % 2
   xor-other h = rw (xor-shr set (2 ^ j) k, lowest (set / 2 ^ k) (2 ^ j / 2 ^ k), other-digit j k h) (differ-zero (set / 2 ^ k % 2) digit-lt)
 
   or-own : j ≡ k → bitOr set (2 ^ j) / 2 ^ k % 2 ≡ 1
@@ -77,7 +77,7 @@ module _ (set j k : ℕ) where
   or-other h = rw (or-shr set (2 ^ j) k, or-lowest (set / 2 ^ k) (2 ^ j / 2 ^ k), other-digit j k h) (omega arith)
 
 -- two positions of a word have the same bit where they are the same
-same-bit : (w i j : ℕ) → i < w → j < w → w - 1 - i ≡ w - 1 - j → j ≡ i
+pub same-bit : (w i j : ℕ) → i < w → j < w → w - 1 - i ≡ w - 1 - j → j ≡ i
 same-bit w i j hi hj e = omega arith
 
 module _ (π : Projection) (position set : ℕ) (inside : position < width π) where

@@ -94,4 +94,5 @@ trace-rows-mean =
       lost-slot = word-rows-mean .none-near;
       no-position = λ π position. leb-iff (width π) position;
       too-large = λ π step reading. or-iff (leb (stepLimit π) step) (leb 4096 reading) (leb-iff (stepLimit π) step) (leb-iff 4096 reading);
+      too-many = λ π k. ltb-iff (width π) k;
     }

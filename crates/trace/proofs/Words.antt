@@ -1,10 +1,10 @@
 -- What a trace takes from the word calls: a fit step and reading are a fit message, which is encoded; a fit word under fit marks is corrected.
 -- The step limit times 4096 is the message limit, and word calls whose numbers fit meet none of their other refusals.
-use Prim.Native.Nat.{ℕ, _+_, _-_, _*_, _/_, _^_, _<_, _≤_}
-use mathlib.Core.Path.{_≡_, sym, ap, _∙_}
+use Prim.Native.Nat.{ℕ, _+_, _*_, _^_, _<_, _≤_}
+use mathlib.Core.Path.{_≡_, sym, _∙_}
 use mathlib.Core.List.{[], _∷_}
 use native.Mathlib.Omega.{arith}
-use lib.Pow.{pow-mono, pow-add, shl-shr}
+use lib.Pow.{pow-mono}
 use Rattle.codes.specs.declared.code.Code.{Code}
 use Rattle.codes.specs.declared.answer.Correction.{Correction}
 use Rattle.codes.specs.Answer.{accepted, refused}
@@ -48,10 +48,3 @@ module _ (π : Projection) (w m : ℕ) (word-fits : w < 2 ^ width π) (marks-fit
       let nothing = answer-none (correct π w m) k answer in
       let five : k ≡ 5 = let same = rw nothing at answer in cc in
       rw (nothing, five)
-
--- the limit of words of a width, shifted, is the bit of a position
-pub shifted-limit : (width position : ℕ) → position < width → 2 ^ width / 2 ^ (position + 1) ≡ 2 ^ (width - 1 - position)
-shifted-limit width position h =
-    let parts : width ≡ width - 1 - position + (position + 1) = omega arith in
-    let split : 2 ^ width ≡ 2 ^ (width - 1 - position) * 2 ^ (position + 1) = ap (_^_ 2) parts ∙ pow-add 2 _ _ in
-    rw split (shl-shr (2 ^ (width - 1 - position)) (position + 1))

@@ -1,5 +1,5 @@
 -- Making, the calls of a list, what a call leaves, and runs of lists: 'any list of puts, flips, marks, clears, surveys and reads, refused ones
--- included, on a freshly made trace'.
+-- included, on a freshly made trace', and of loads.
 use mathlib.Core.List.{List, [], _∷_}
 use Prim.Native.Nat.{ℕ}
 use Rattle.codes.specs.Answer.{Answer, accepted, refused}
@@ -16,6 +16,8 @@ pub data Call : Type 0 where
   -- slot, position
   flip : ℕ → ℕ → Call
   mark : ℕ → ℕ → Call
+  -- slot, seed, count
+  load : ℕ → ℕ → ℕ → Call
   -- slot
   clear : ℕ → Call
   read : ℕ → Call

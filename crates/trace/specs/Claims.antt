@@ -3,10 +3,10 @@
 use mathlib.Core.Path.{_≡_}
 use mathlib.Core.Bool.{true}
 use mathlib.Core.Logic.{_⊎_, _↔_}
-use mathlib.Core.List.{List, [], _∷_, _++_}
+use mathlib.Core.List.{List, [], _∷_, _++_, map}
 use Prim.Native.Nat.{ℕ, zero, suc, _+_, _-_, _*_, _^_, _<_, _≤_}
 use lib.Bits.{bitXor}
-use lib.ListN.{length, replicate}
+use lib.ListN.{length, getD, replicate}
 use Rattle.codes.specs.Answer.{Answer, accepted, refused, mapAnswer, Row}
 use Rattle.codes.specs.Projection.{Projection, width}
 use Rattle.codes.specs.Word.{word, bitAt}
@@ -23,8 +23,10 @@ use Rattle.trace.specs.declared.slot.Content.{Content}
 use Rattle.trace.specs.declared.status.Status.{Status}
 use Rattle.trace.specs.Layout.{neededFor, countIn, freeFor}
 use Rattle.trace.specs.Answers.{readingValues, pressuresValues, surveyValues}
-use Rattle.trace.specs.Calls.{Call, put, flip, mark, clear, read, survey, Making, After, run}
-use Rattle.trace.specs.Refusals.{isCount, wrongCount, tooShort, trailerUnfit, noSlot, badSlot, blankSlot, lostSlot, noPosition, tooLarge}
+use Rattle.trace.specs.Calls.{Call, put, flip, mark, load, clear, read, survey, Making, After, after, Run, run}
+use Rattle.trace.specs.Load.{positionsOf, handedBack}
+use Rattle.trace.specs.Refusals.{isCount, wrongCount, tooShort, trailerUnfit, noSlot, badSlot, blankSlot, lostSlot}
+use Rattle.trace.specs.Refusals.{noPosition, tooLarge, tooMany}
 use Rattle.trace.specs.View.{contentOf, readingOf}
 use Rattle.trace.specs.Survey.{statusOf, count, pressures, total, extremes}
 use Rattle.trace.specs.Trace.{contentWith, viewIn, short, refusalsIn, stored, onBytes, makeRows, make, aloneIn, surveyIn}
@@ -32,11 +34,12 @@ use Rattle.trace.specs.Plain.{Slot, Plain, projectionOf, slotOf, bytes, 
 
 -- ---- demand 1
 
--- the numbers that the scope's table of refusals gives a call, and a making, in the order in which they are tried
+-- the numbers that the table of refusals, the scope's and the requests', gives a call, and a making, in the order in which they are tried
 abbrev pub numbersOf : Call → List ℕ
 numbersOf (put slot step reading) = 7 ∷ 8 ∷ 9 ∷ 13 ∷ []
 numbersOf (flip slot position) = 7 ∷ 8 ∷ 9 ∷ 10 ∷ 11 ∷ 12 ∷ []
 numbersOf (mark slot position) = 7 ∷ 8 ∷ 9 ∷ 10 ∷ 11 ∷ 12 ∷ []
+numbersOf (load slot seed k) = 7 ∷ 8 ∷ 9 ∷ 10 ∷ 11 ∷ 14 ∷ []
 numbersOf (clear slot) = 7 ∷ 8 ∷ 9 ∷ []
 numbersOf (read slot) = 7 ∷ 8 ∷ 9 ∷ 10 ∷ 11 ∷ 5 ∷ []
 numbersOf survey = 7 ∷ 8 ∷ []
@@ -45,12 +48,13 @@ abbrev pub makingNumbers : List ℕ
 makingNumbers = 1 ∷ 6 ∷ 7 ∷ []
 
 -- 'Unfit input gets one of the thirteen refusal numbers of [the scope], returns nothing else, and changes no lent byte': an answer by a table
--- with these numbers, in this order, and the bytes as they were where it is a refusal
+-- with these numbers, in this order, and the bytes as they were where it is a refusal. 'Demand 1's numbers [..] take in this and each later number, at
+-- the place its request names'
 pub record Harmless (order : List ℕ) (rows : List Row) (b : List ℕ) (r : After (List ℕ)) : Type 0 where
   pub answer : ByTable order rows (r .answer)
   pub unchanged : (n : ℕ) → r .answer ≡ refused n → r .state ≡ b
 
--- when each row of the trace calls is met, in the words of the scope's table
+-- when each row of the trace calls is met, in the words of the scope's table and of the requests
 pub record TraceRowsMean : Type 0 where
   -- 6: 'N not 1 to 4,000'
   pub wrong-count : (n : ℕ) → (wrongCount n .met ≡ true ↔ ((1 ≤ n) × (n ≤ 4000) → ⊥))
@@ -77,6 +81,8 @@ pub record TraceRowsMean : Type 0 where
   pub no-position : (π : Projection) (position : ℕ) → (noPosition π position .met ≡ true ↔ width π ≤ position)
   -- 13: 'step or reading too large'
   pub too-large : (π : Projection) (step reading : ℕ) → (tooLarge π step reading .met ≡ true ↔ (stepLimit π ≤ step) ⊎ (4096 ≤ reading))
+  -- 14: 'k is above the word's width'
+  pub too-many : (π : Projection) (k : ℕ) → (tooMany π k .met ≡ true ↔ width π < k)
 
 pub record Demand1 : Type 0 where
   pub calls : (c : Call) (b : List ℕ) → Harmless (numbersOf c) (refusalsIn c b) b (onBytes c b)
@@ -224,10 +230,11 @@ pub record Added (π : Projection) (position set set′ : ℕ) : Type 0 where
 pub record PlainCalls : Type 0 where
   -- 'the plain trace then has N blank slots'
   pub made : (found : List ℕ) (m : Making) → (length (fresh m found .slots) ≡ m .slots) × ((slot : ℕ) → slotOf (fresh m found) slot ≡ Slot.blank)
-  -- a blank slot can't be read, flipped or marked
-  pub blanks : (p : Plain) (slot position : ℕ) → slot < length (p .slots) → slotOf p slot ≡ Slot.blank
+  -- a blank slot can't be read, flipped, marked or loaded
+  pub blanks : (p : Plain) (slot position seed k : ℕ) → slot < length (p .slots) → slotOf p slot ≡ Slot.blank
       → (onPlain (read slot) p .answer ≡ refused 11)
-      × ((onPlain (flip slot position) p .answer ≡ refused 11) × (onPlain (mark slot position) p .answer ≡ refused 11))
+      × ((onPlain (flip slot position) p .answer ≡ refused 11)
+      × ((onPlain (mark slot position) p .answer ≡ refused 11) × (onPlain (load slot seed k) p .answer ≡ refused 11)))
   -- 'Put empties both'
   pub puts : (p : Plain) (slot step reading : ℕ) → onPlain (put slot step reading) p .answer ≡ accepted []
       → SlotBecame p slot (Slot.written (step * 4096 + reading) 0 0) (onPlain (put slot step reading) p .state)
@@ -237,6 +244,12 @@ pub record PlainCalls : Type 0 where
   -- 'mark adds to M'
   pub marks : (p : Plain) (slot position m F M : ℕ) → slotOf p slot ≡ Slot.written m F M → onPlain (mark slot position) p .answer ≡ accepted []
       → (M′ : ℕ) × Added (projectionOf p) position M M′ × SlotBecame p slot (Slot.written m F M′) (onPlain (mark slot position) p .state)
+  -- a load of a written slot is accepted exactly while k is at most the width; message and marks stay
+  pub loads : (p : Plain) (slot seed k m F M : ℕ) → slot < length (p .slots) → slotOf p slot ≡ Slot.written m F M → k ≤ width (projectionOf p)
+      → (onPlain (load slot seed k) p .answer ≡ accepted (handedBack k seed ∷ []))
+      × ((F′ : ℕ) × SlotBecame p slot (Slot.written m F′ M) (onPlain (load slot seed k) p .state))
+  pub overloads : (p : Plain) (slot seed k m F M : ℕ) → slot < length (p .slots) → slotOf p slot ≡ Slot.written m F M → width (projectionOf p) < k
+      → onPlain (load slot seed k) p .answer ≡ refused 14
   -- 'a second mark changes nothing'
   pub again : (π : Projection) (position : ℕ) (s : Slot) → marked π position (marked π position s) ≡ marked π position s
   -- 'clear blanks'
@@ -252,6 +265,7 @@ Overwrites slot (put other step reading) = other ≡ slot
 Overwrites slot (clear other) = other ≡ slot
 Overwrites slot (flip other position) = ⊥
 Overwrites slot (mark other position) = ⊥
+Overwrites slot (load other seed k) = ⊥
 Overwrites slot (read other) = ⊥
 Overwrites slot survey = ⊥
 
@@ -267,6 +281,56 @@ LastPut =
     → onPlain (put slot step reading) (plainAfter found m before) .answer ≡ accepted []
     → Kept slot behind (onPlain (put slot step reading) (plainAfter found m before) .state)
     → (F M : ℕ) × (slotOf (plainAfter found m (before ++ (put slot step reading ∷ behind))) slot ≡ Slot.written (step * 4096 + reading) F M)
+
+-- ---- a repeatable fault load
+
+-- 'exactly k different positions are flipped'
+pub record Draws (π : Projection) (seed k : ℕ) : Type 0 where
+  pub count : length (positionsOf π seed k) ≡ k
+  pub inside : (i : ℕ) → i < k → getD (positionsOf π seed k) i 0 < width π
+  pub different : (i j : ℕ) → i < j → j < k → getD (positionsOf π seed k) i 0 ≡ getD (positionsOf π seed k) j 0 → ⊥
+
+abbrev pub LoadDraws : Type 0
+LoadDraws = (π : Projection) (seed k : ℕ) → k ≤ width π → Draws π seed k
+
+-- three draws at 36 bits from the seed 1, and the number handed back
+pub record LoadExample : Type 0 where
+  pub positions : positionsOf (projection Code.O36) 1 3 ≡ 16 ∷ 15 ∷ 34 ∷ []
+  pub number : handedBack 3 1 ≡ 2165703038
+
+-- the flips of a load, one after the other
+abbrev pub flipsOf : Projection → ℕ → ℕ → ℕ → List Call
+flipsOf π slot seed k = map (flip slot) (positionsOf π seed k)
+
+-- n calls that only change, all accepted, and the state that they leave
+abbrev pub allAccepted : {S : Type 0} → ℕ → S → Run S
+allAccepted n s = record { answers = replicate n (accepted []); state = s }
+
+-- 'Such a load counts as k flips in any list of calls, a refused one as none; its one answer there, in the plain trace too, is the number handed
+-- back, or its refusal': in a state of the bytes or of the plain trace
+pub record CountsAsFlips {S : Type 0} (machine : Call → S → After S) (π : Projection) (s : S) (slot seed k : ℕ) : Type 0 where
+  -- the flips, made one after the other, are all accepted and leave what the load leaves
+  pub flips : (vs : List ℕ) → machine (load slot seed k) s .answer ≡ accepted vs
+      → (vs ≡ handedBack k seed ∷ []) × (run machine (flipsOf π slot seed k) s ≡ allAccepted k (machine (load slot seed k) s .state))
+  pub none : (n : ℕ) → machine (load slot seed k) s .answer ≡ refused n → machine (load slot seed k) s .state ≡ s
+  -- the same load again undoes it
+  pub again : (vs : List ℕ) → machine (load slot seed k) s .answer ≡ accepted vs
+      → machine (load slot seed k) (machine (load slot seed k) s .state) ≡ after (accepted vs) s
+
+abbrev pub LoadIsFlips : Type 0
+LoadIsFlips = (p : Plain) (slot seed k : ℕ) → CountsAsFlips onPlain (projectionOf p) p slot seed k
+
+-- and so after any list of calls on the bytes
+abbrev pub LoadInUse : Type 0
+LoadInUse =
+    (found : List ℕ) (m : Making) (calls : List Call) (slot seed k : ℕ) → MakeFit found m
+    → CountsAsFlips onBytes (codeMade m) (bytesAfter onBytes found m calls) slot seed k
+
+-- 'A load meets 7 to 11 as a flip does', whatever the buffer holds
+abbrev pub LoadMeetsAsFlip : Type 0
+LoadMeetsAsFlip =
+    (b : List ℕ) (slot seed k position n : ℕ) → Among n (7 ∷ 8 ∷ 9 ∷ 10 ∷ 11 ∷ [])
+    → (onBytes (load slot seed k) b .answer ≡ refused n ↔ onBytes (flip slot position) b .answer ≡ refused n)
 
 -- ---- the survey
 

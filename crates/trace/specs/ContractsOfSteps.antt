@@ -12,6 +12,8 @@ use Rattle.codes.specs.Codes.{projection, codeOf}
 use Rattle.codes.specs.Word.{bit}
 use Rattle.trace.specs.declared.answer.Reading.{Reading}
 use Rattle.trace.specs.declared.answer.Counts.{Counts}
+use Rattle.trace.specs.declared.answer.Done.{Done}
+use Rattle.trace.specs.declared.answer.LoadAnswer.{LoadAnswer}
 use Rattle.trace.specs.declared.answer.Pressures.{Pressures}
 use Rattle.trace.specs.declared.answer.Refusal.{Refusal}
 use Rattle.trace.specs.declared.answer.Refusal.the-variants.{Word}
@@ -26,13 +28,13 @@ use Rattle.trace.specs.declared.change.Change.{Change}
 use Rattle.trace.specs.declared.change.Changed.{Changed}
 use Rattle.trace.specs.declared.tally.Tally.{Tally}
 use Rattle.trace.specs.Layout.{stateSize, wordSize, distanceOf, neededFor, startIn, countIn, codeIn, placeIn}
-use Rattle.trace.specs.Calls.{Call, put, flip, mark, clear}
+use Rattle.trace.specs.Calls.{Call, put, flip, mark, load, clear}
 use Rattle.trace.specs.View.{View, countOf, contentOf}
 use Rattle.trace.specs.Refusals.{isFit}
 use Rattle.trace.specs.Rules.{bitRows, refusals, gives}
 use Rattle.trace.specs.Survey.{statusOf, is, countsOf, pressures, total, smallest, largest, extremes}
 use Rattle.trace.specs.Trace.{projectionIn, contentAt, viewIn, trailerRows, slotRowsIn, stored, leaves}
-use Rattle.trace.specs.Answers.{refusalNumber}
+use Rattle.trace.specs.Answers.{refusalNumber, doneAnswer, loadAnswer}
 
 -- ---- the trailer
 
@@ -101,7 +103,28 @@ abbrev pub callOf : ℕ → Change → Call
 callOf slot (Change.Put step reading) = put slot step reading
 callOf slot (Change.Flip position) = flip slot position
 callOf slot (Change.Mark position) = mark slot position
+callOf slot (Change.Load seed count) = load slot seed count
 callOf slot Change.Clear = clear slot
+
+-- what is answered to a change: a load's number is given, and of any other change there is none
+abbrev pub doneOf : LoadAnswer → Done
+doneOf (LoadAnswer.Loaded number) = Done.Accepted
+doneOf (LoadAnswer.Refused r) = Done.Refused r
+
+abbrev pub answerOf : Change → LoadAnswer → Answer (List ℕ)
+answerOf (Change.Put step reading) a = doneAnswer (doneOf a)
+answerOf (Change.Flip position) a = doneAnswer (doneOf a)
+answerOf (Change.Mark position) a = doneAnswer (doneOf a)
+answerOf (Change.Load seed count) a = loadAnswer a
+answerOf Change.Clear a = doneAnswer (doneOf a)
+
+-- what holds of a change that hands no number back
+abbrev pub Unnumbered : Change → Type 0 → Type 0
+Unnumbered (Change.Put step reading) P = P
+Unnumbered (Change.Flip position) P = P
+Unnumbered (Change.Mark position) P = P
+Unnumbered (Change.Load seed count) P = Unit {0}
+Unnumbered Change.Clear P = P
 
 -- a slot of a trace, by its code and what it holds
 pub record SlotIn (v : View) (slot : ℕ) (π : Projection) (c : Content) : Type 0 where
@@ -109,14 +132,14 @@ pub record SlotIn (v : View) (slot : ℕ) (π : Projection) (c : Content) : Type
   pub code : v .code ≡ π
   pub content : contentOf v slot ≡ c
 
--- a change that is accepted, and the content that it then stores, in any trace with such a slot
-pub record ChangedTo (π : Projection) (old : Content) (change : Change) (new : Content) : Type 0 where
+-- a change that is accepted, the content that it then stores, in any trace with such a slot, and the number handed back
+pub record ChangedTo (π : Projection) (old : Content) (change : Change) (new : Content) (number : ℕ) : Type 0 where
   pub passes : (v : View) (slot : ℕ) → SlotIn v slot π old → Passes (refusals (callOf slot change) v)
-  pub gives : (v : View) (slot : ℕ) → gives (callOf slot change) v ≡ accepted []
+  pub gives : (v : View) (slot : ℕ) → gives (callOf slot change) v ≡ answerOf change (LoadAnswer.Loaded number)
   pub leaves : (b : List ℕ) (slot : ℕ) → projectionIn b ≡ π → contentOf (viewIn b) slot ≡ old → leaves (callOf slot change) b ≡ stored slot new b
 
 abbrev pub Changing : Projection → Content → Change → Changed → Type 0
-Changing π old change (Changed.To new) = ChangedTo π old change new
+Changing π old change (Changed.To new number) = ChangedTo π old change new number
 Changing π old change (Changed.Refused r) =
     (v : View) (slot : ℕ) → SlotIn v slot π old → Refuses (refusals (callOf slot change) v) (refusalNumber r)
 

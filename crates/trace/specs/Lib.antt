@@ -1,6 +1,6 @@
 -- What a reader must believe of a trace, in reading order.
 
--- numbers in a row
+-- small functions on lists
 pub mod Lists
 -- making and the calls, what a call leaves, runs of lists of calls
 pub mod Calls
@@ -8,6 +8,8 @@ pub mod Calls
 pub mod Layout
 -- the scope's number and values for each case of an answer
 pub mod Answers
+-- which positions a fault load flips, and the number that it hands back
+pub mod Load
 -- what a call sees of a trace, what a read gives of a slot, what a change makes of it
 pub mod View
 -- statuses, counts and pressures
@@ -24,3 +26,4 @@ pub mod Plain
 pub mod Claims
 -- ---- what private steps promise each other: no claim rests on it but by the proofs
 pub mod ContractsOfSteps
+pub mod ContractsOfLoad

@@ -10,8 +10,10 @@ use Rattle.codes.specs.Word.{bit}
 use Rattle.codes.specs.Message.{encode}
 use Rattle.codes.specs.Codes.{projection, codeOf}
 use Rattle.trace.specs.declared.slot.Content.{Content}
-use Rattle.trace.specs.Calls.{Call, put, flip, mark, clear, read, survey, Making, After, outcome}
+use Rattle.trace.specs.Calls.{Call, put, flip, mark, load, clear, read, survey, Making, After, outcome}
 use Rattle.trace.specs.Layout.{SlotBytes, contentBytes, body, trailer, freeFor}
+use Rattle.trace.specs.Lists.{inTurn}
+use Rattle.trace.specs.Load.{positionsOf}
 use Rattle.trace.specs.View.{View, messageOf}
 use Rattle.trace.specs.Rules.{refusals, gives}
 
@@ -69,15 +71,18 @@ abbrev pub marked : Projection → ℕ → Slot → Slot
 marked π position Slot.blank = Slot.blank
 marked π position (Slot.written m F M) = Slot.written m F (bitOr M (bit π position))
 
--- 'Put empties both; flip moves a position into F or out of it; mark adds to M; clear blanks'
+-- 'Put empties both; flip moves a position into F or out of it; mark adds to M; clear blanks'; a load 'counts as k flips'
 abbrev pub plainLeaves : Call → Plain → Plain
 plainLeaves (put slot step reading) p = withSlot slot (Slot.written (messageOf step reading) 0 0) p
 plainLeaves (flip slot position) p = withSlot slot (flipped (projectionOf p) position (slotOf p slot)) p
 plainLeaves (mark slot position) p = withSlot slot (marked (projectionOf p) position (slotOf p slot)) p
+plainLeaves (load slot seed k) p =
+    withSlot slot (inTurn (flipped (projectionOf p)) (positionsOf (projectionOf p) seed k) (slotOf p slot)) p
 plainLeaves (clear slot) p = withSlot slot Slot.blank p
 plainLeaves (read slot) p = p
 plainLeaves survey p = p
 
--- a call on the plain trace: 'Refusals 9, 11, 12 and 13 follow from its slots and the call's numbers, 5 from mending; 7, 8 and 10 are never met'
+-- a call on the plain trace: 'Refusals 9, 11, 12 and 13 follow from its slots and the call's numbers, 5 from mending; 7, 8 and 10 are never met';
+-- 14 follows from the call's numbers
 unfoldable pub onPlain : Call → Plain → After Plain
 onPlain c p = outcome (unless (refusals c (viewOf p)) (gives c (viewOf p))) (plainLeaves c p) p

@@ -1,4 +1,4 @@
--- The rows of the scope's table of refusals that trace calls have, each under the table's words for when it is met. Refusal 1 is the codes' own
+-- The rows of the table of refusals that trace calls have, each under the words of the scope, or of its request, for when it is met. Refusal 1 is the codes' own
 -- row. The calls' tables stand in 'Rules'.
 use mathlib.Core.Bool.{Bool, true, false, not, _&&_, _||_}
 use Prim.Native.Nat.{ℕ, _^_}
@@ -71,3 +71,7 @@ noPosition π position = record { number = 12; met = leb (width π) position }
 -- 'step or reading too large': 'the reading is 0 to 4095'
 abbrev pub tooLarge : Projection → ℕ → ℕ → Row
 tooLarge π step reading = record { number = 13; met = leb (stepLimit π) step || leb 4096 reading }
+
+-- '14 when k is above the word's width'
+abbrev pub tooMany : Projection → ℕ → Row
+tooMany π k = record { number = 14; met = ltb (width π) k }

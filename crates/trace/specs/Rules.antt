@@ -5,23 +5,29 @@ use Rattle.codes.specs.Answer.{Answer, accepted, Row, mapAnswer}
 use Rattle.codes.specs.Projection.{Projection}
 use Rattle.trace.specs.declared.slot.Content.{Content}
 use Rattle.trace.specs.Answers.{readingValues, surveyValues}
-use Rattle.trace.specs.Calls.{Call, put, flip, mark, clear, read, survey}
+use Rattle.trace.specs.Calls.{Call, put, flip, mark, load, clear, read, survey}
+use Rattle.trace.specs.Load.{handedBack}
 use Rattle.trace.specs.View.{View, countOf, contentOf, readAlone}
 use Rattle.trace.specs.Survey.{surveyOf}
-use Rattle.trace.specs.Refusals.{noSlot, badSlot, blankSlot, lostSlot, noPosition, tooLarge}
+use Rattle.trace.specs.Refusals.{noSlot, badSlot, blankSlot, lostSlot, noPosition, tooLarge, tooMany}
 
--- the rows of read, and of flip and mark, behind their slot's
+-- the rows of read, of flip and mark, and of load, behind their slot's
 abbrev pub contentRows : Projection → Content → List Row
 contentRows π c = badSlot c ∷ blankSlot c ∷ lostSlot π c ∷ []
 
 abbrev pub bitRows : Projection → Content → ℕ → List Row
 bitRows π c position = badSlot c ∷ blankSlot c ∷ noPosition π position ∷ []
 
+-- 'A load meets 7 to 11 as a flip does. 14 [..], checked after 11'
+abbrev pub loadRows : Projection → Content → ℕ → List Row
+loadRows π c k = badSlot c ∷ blankSlot c ∷ tooMany π k ∷ []
+
 -- a call's refusals in order, behind 7 and 8; 5 on a read 'is tried only after all others pass'
 abbrev pub refusals : Call → View → List Row
 refusals (put slot step reading) v = noSlot (countOf v) slot ∷ tooLarge (v .code) step reading ∷ []
 refusals (flip slot position) v = noSlot (countOf v) slot ∷ bitRows (v .code) (contentOf v slot) position
 refusals (mark slot position) v = noSlot (countOf v) slot ∷ bitRows (v .code) (contentOf v slot) position
+refusals (load slot seed k) v = noSlot (countOf v) slot ∷ loadRows (v .code) (contentOf v slot) k
 refusals (clear slot) v = noSlot (countOf v) slot ∷ []
 refusals (read slot) v = noSlot (countOf v) slot ∷ contentRows (v .code) (contentOf v slot)
 refusals survey v = []
@@ -31,6 +37,7 @@ abbrev pub gives : Call → View → Answer (List ℕ)
 gives (put slot step reading) v = accepted []
 gives (flip slot position) v = accepted []
 gives (mark slot position) v = accepted []
+gives (load slot seed k) v = accepted (handedBack k seed ∷ [])
 gives (clear slot) v = accepted []
 gives (read slot) v = mapAnswer readingValues (readAlone v slot)
 gives survey v = accepted (surveyValues (surveyOf v))

@@ -3,6 +3,7 @@ ghost use mathlib.Core.Path.{_≡_};
 ghost use Prim.Native.Nat.{_≤_};
 ghost use lib.ListN.{length};
 ghost use Rattle.trace.specs.Answers.{refusalNumber, readingValues, countsValues, pressuresValues, pressuresInThree, surveyPadded};
+ghost use Rattle.trace.specs.ContractsOfSteps.{doneOf};
 
 // Why a call is refused: as a word call is, or for a reason of the trace's own.
 pub enum Refusal {
@@ -15,6 +16,7 @@ pub enum Refusal {
     SlotBlank,
     NoPosition,
     TooLarge,
+    TooMany,
 }
 
 impl Refusal {
@@ -32,6 +34,7 @@ impl Refusal {
             Refusal::SlotBlank => 11,
             Refusal::NoPosition => 12,
             Refusal::TooLarge => 13,
+            Refusal::TooMany => 14,
         }
     }
 }
@@ -40,6 +43,24 @@ impl Refusal {
 pub enum Done {
     Accepted,
     Refused(Refusal),
+}
+
+// Of load: the number handed back.
+pub enum LoadAnswer {
+    Loaded(u32),
+    Refused(Refusal),
+}
+
+impl LoadAnswer {
+    // Without the number.
+    pub(crate) fn done(self) -> Done
+        ensures { λ r. ⌜ r ≡ doneOf self ⌝ }
+    {
+        match self {
+            LoadAnswer::Loaded(_) => Done::Accepted,
+            LoadAnswer::Refused(r) => Done::Refused(r),
+        }
+    }
 }
 
 // A corrected message's step and reading, the unmarked positions that were wrong, and the number of marks.

@@ -1,8 +1,10 @@
 // The trace calls but the survey. Each takes any buffer and any numbers; a refused call changes no byte.
 use crate::answer::Done;
+use crate::answer::LoadAnswer;
 use crate::answer::ReadAnswer;
 use crate::answer::Refusal;
 use crate::change::Change;
+use crate::change::change_only;
 use crate::change::change_slot;
 use crate::layout::Found;
 use crate::layout::find;
@@ -15,9 +17,9 @@ use codes::Code;
 use codes::CodeFound;
 ghost use mathlib.Core.Path.{_≡_};
 ghost use Rattle.codes.specs.Answer.{mapAnswer};
-ghost use Rattle.trace.specs.Calls.{after, put, flip, mark, clear, read};
+ghost use Rattle.trace.specs.Calls.{after, put, flip, mark, load, clear, read};
 ghost use Rattle.trace.specs.Trace.{onBytes, make, aloneIn};
-ghost use Rattle.trace.specs.Answers.{doneAnswer, readAnswer, readingValues};
+ghost use Rattle.trace.specs.Answers.{doneAnswer, loadAnswer, readAnswer, readingValues};
 
 // Makes a trace of blank slots at the buffer's end. Refusals 1, 6 and 7.
 pub fn make(b: &mut [u8], code: u64, slots: u64) -> Done
@@ -40,28 +42,35 @@ pub fn make(b: &mut [u8], code: u64, slots: u64) -> Done
 pub fn put(b: &mut [u8], slot: u64, step: u64, reading: u64) -> Done
     ensures { λ r. ⌜ after (doneAnswer r) (now (b .exit)) ≡ onBytes (put slot step reading) (now (b .entry)) ⌝ }
 {
-    change_slot(b, slot, Change::Put(step, reading))
+    change_only(b, slot, Change::Put(step, reading))
 }
 
 // Inverts a stored bit. Refusals 7 to 12.
 pub fn flip(b: &mut [u8], slot: u64, position: u64) -> Done
     ensures { λ r. ⌜ after (doneAnswer r) (now (b .exit)) ≡ onBytes (flip slot position) (now (b .entry)) ⌝ }
 {
-    change_slot(b, slot, Change::Flip(position))
+    change_only(b, slot, Change::Flip(position))
 }
 
 // Marks a stored bit. Refusals 7 to 12.
 pub fn mark(b: &mut [u8], slot: u64, position: u64) -> Done
     ensures { λ r. ⌜ after (doneAnswer r) (now (b .exit)) ≡ onBytes (mark slot position) (now (b .entry)) ⌝ }
 {
-    change_slot(b, slot, Change::Mark(position))
+    change_only(b, slot, Change::Mark(position))
+}
+
+// Inverts so many different stored bits, drawn from a seed, and answers the number handed back. Refusals 7 to 11, then 14.
+pub fn load(b: &mut [u8], slot: u64, seed: u32, count: u64) -> LoadAnswer
+    ensures { λ r. ⌜ after (loadAnswer r) (now (b .exit)) ≡ onBytes (load slot seed count) (now (b .entry)) ⌝ }
+{
+    change_slot(b, slot, Change::Load(seed, count))
 }
 
 // Blanks a slot. Refusals 7, 8 and 9.
 pub fn clear(b: &mut [u8], slot: u64) -> Done
     ensures { λ r. ⌜ after (doneAnswer r) (now (b .exit)) ≡ onBytes (clear slot) (now (b .entry)) ⌝ }
 {
-    change_slot(b, slot, Change::Clear)
+    change_only(b, slot, Change::Clear)
 }
 
 // Mends a slot by what it alone holds, as survey and listing take it. Refusals 7 to 11, then 5.

@@ -1,9 +1,11 @@
-// Traces of readings in a lent buffer: making, put, flip, mark, clear, read and survey.
+// Traces of readings in a lent buffer: making, put, flip, mark, load, clear, read and survey.
 mod answer;
 mod bytes;
 mod calls;
 mod change;
+mod generator;
 mod layout;
+mod loads;
 mod slot;
 mod status;
 mod surveys;
@@ -11,6 +13,7 @@ mod tally;
 
 pub use answer::Counts;
 pub use answer::Done;
+pub use answer::LoadAnswer;
 pub use answer::Pressures;
 pub use answer::ReadAnswer;
 pub use answer::Reading;
@@ -20,6 +23,7 @@ pub use answer::SurveyAnswer;
 pub use answer::SurveyValues;
 pub use calls::clear;
 pub use calls::flip;
+pub use calls::load;
 pub use calls::make;
 pub use calls::mark;
 pub use calls::put;

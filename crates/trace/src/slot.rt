@@ -10,7 +10,7 @@ use crate::layout::WORD;
 use codes::Code;
 use codes::Corrected;
 ghost use mathlib.Core.Path.{_≡_};
-ghost use Prim.Native.Nat.{_<_, _^_};
+ghost use Prim.Native.Nat.{_-_, _<_, _≤_, _^_};
 ghost use lib.ListN.{length};
 ghost use Rattle.codes.specs.Projection.{width};
 ghost use Rattle.codes.specs.Correction.{correct};
@@ -36,6 +36,14 @@ pub(crate) enum Content {
     Blank,
     Bad,
     Written(u64, u64),
+}
+
+// The bit of a position in a word of so many bits: position 0 is the highest.
+pub(crate) fn bit(width: u64, position: u64) -> u64
+    requires { ⌜ (width ≤ 64) × (position < width) ⌝ }
+    ensures { λ r. ⌜ r ≡ 2 ^ (width - 1 - position) ⌝ }
+{
+    1u64 << (width - 1 - position)
 }
 
 // What a slot with these numbers holds.

@@ -1,15 +1,23 @@
 // The trace calls, tried: each refusal, also where a later one applies too, and the boundaries of every number; whether any byte changed;
-// and surveys.
+// surveys; and the worked loads.
+mod last;
+mod loads;
 mod show;
 
 use show::bytes_changed;
 use show::named;
 use show::show_done;
+use show::show_last;
+use show::show_load;
 use show::show_read;
 use show::show_survey;
 use show::text;
-use trace::Done;
 ghost use Prim.Native.Nat.{_≤_, _<_};
+
+// The largest number that a call takes, and the largest seed.
+const LARGEST: u64 = 18446744073709551615;
+
+const LARGEST_SEED: u32 = 4294967295;
 
 // Makes a trace in the first bytes of a buffer.
 fn make(buffer: [u8; 64], length: usize, code: u64, slots: u64) -> [u8; 64]
@@ -43,6 +51,8 @@ enum Call {
     // Slot, position.
     Flip(u64, u64),
     Mark(u64, u64),
+    // Slot, seed, count.
+    Load(u64, u32, u64),
     // Slot.
     Clear(u64),
 }
@@ -63,17 +73,23 @@ fn show_call(call: Call) {
             named(b"mark ", slot);
             named(b" ", position);
         }
+        Call::Load(slot, seed, count) => {
+            named(b"load ", slot);
+            named(b" ", seed as u64);
+            named(b" ", count);
+        }
         Call::Clear(slot) => named(b"clear ", slot),
     }
 }
 
-// Makes the call.
-fn run(b: &mut [u8], call: Call) -> Done {
+// Makes the call and shows its answer.
+fn run(b: &mut [u8], call: Call) {
     match call {
-        Call::Put(slot, step, reading) => trace::put(b, slot, step, reading),
-        Call::Flip(slot, position) => trace::flip(b, slot, position),
-        Call::Mark(slot, position) => trace::mark(b, slot, position),
-        Call::Clear(slot) => trace::clear(b, slot),
+        Call::Put(slot, step, reading) => show_done(trace::put(b, slot, step, reading)),
+        Call::Flip(slot, position) => show_done(trace::flip(b, slot, position)),
+        Call::Mark(slot, position) => show_done(trace::mark(b, slot, position)),
+        Call::Load(slot, seed, count) => show_load(b":", trace::load(b, slot, seed, count)),
+        Call::Clear(slot) => show_done(trace::clear(b, slot)),
     }
 }
 
@@ -82,9 +98,8 @@ fn change(buffer: [u8; 64], length: usize, call: Call) -> [u8; 64]
     requires { ⌜ length ≤ 64 ⌝ }
 {
     let mut b = buffer;
-    let answer = run(&mut b[0..length], call);
     show_call(call);
-    show_done(answer);
+    run(&mut b[0..length], call);
     bytes_changed(&buffer, &b);
     b
 }
@@ -106,6 +121,12 @@ fn mark(buffer: [u8; 64], length: usize, slot: u64, position: u64) -> [u8; 64]
     requires { ⌜ length ≤ 64 ⌝ }
 {
     change(buffer, length, Call::Mark(slot, position))
+}
+
+fn load(buffer: [u8; 64], length: usize, slot: u64, seed: u32, count: u64) -> [u8; 64]
+    requires { ⌜ length ≤ 64 ⌝ }
+{
+    change(buffer, length, Call::Load(slot, seed, count))
 }
 
 fn clear(buffer: [u8; 64], length: usize, slot: u64) -> [u8; 64]
@@ -139,14 +160,16 @@ fn with(buffer: [u8; 64], at: usize, byte: u8) -> [u8; 64]
     b
 }
 
-// All calls on a slot of a trace.
-fn every_call(buffer: [u8; 64], length: usize, slot: u64, position: u64)
+// All calls on a slot of a trace; a load of no positions, and one of as many as `count` says.
+fn every_call(buffer: [u8; 64], length: usize, slot: u64, position: u64, count: u64)
     requires { ⌜ length ≤ 64 ⌝ }
 {
     put(buffer, length, slot, 0, 0);
     clear(buffer, length, slot);
     flip(buffer, length, slot, position);
     mark(buffer, length, slot, position);
+    load(buffer, length, slot, 0, 0);
+    load(buffer, length, slot, LARGEST_SEED, count);
     read(buffer, length, slot);
     survey(buffer, length);
 }
@@ -162,8 +185,8 @@ fn makings() {
     make(b, 64, 4, 5);
     make(b, 63, 4, 5);
     make(b, 62, 4, 5);
-    make(b, 64, 18446744073709551615, 18446744073709551615);
-    make(b, 64, 4, 18446744073709551615);
+    make(b, 64, LARGEST, LARGEST);
+    make(b, 64, 4, LARGEST);
 }
 
 // The most slots, and the bytes that they need.
@@ -200,8 +223,8 @@ fn spoilt_trailers(b: [u8; 64]) {
 // Refusals 7 and 8: the shortest buffers, a spoilt trailer, and 5 slots with the right distance of 55, but 54 bytes before the trailer.
 fn trailers() {
     let b = make([255u8; 64], 64, 1, 2);
-    every_call(b, 7, 18446744073709551615, 18446744073709551615);
-    every_call(b, 8, 18446744073709551615, 18446744073709551615);
+    every_call(b, 7, LARGEST, LARGEST, LARGEST);
+    every_call(b, 8, LARGEST, LARGEST, LARGEST);
     spoilt_trailers(b);
     let distance = with([0u8; 64], 57, 55);
     let count = with(distance, 59, 5);
@@ -214,7 +237,7 @@ fn large_numbers(w: [u8; 64], steps: u64) {
     put(w, 64, 1, steps, 4096);
     put(w, 64, 1, steps, 0);
     put(w, 64, 1, 0, 4096);
-    put(w, 64, 1, 18446744073709551615, 18446744073709551615);
+    put(w, 64, 1, LARGEST, LARGEST);
     read(w, 64, 1);
 }
 
@@ -226,27 +249,63 @@ fn positions(w: [u8; 64], width: u64)
     flip(w, 64, 1, width);
     mark(w, 64, 1, width - 1);
     mark(w, 64, 1, width);
-    flip(w, 64, 1, 18446744073709551615);
+    flip(w, 64, 1, LARGEST);
+}
+
+// Refusal 14: slot 1 is written.
+fn counts(w: [u8; 64], seed: u32, width: u64)
+    requires { ⌜ width ≤ 40 ⌝ }
+{
+    load(w, 64, 1, seed, 0);
+    load(w, 64, 1, seed, 1);
+    load(w, 64, 1, seed, width);
+    load(w, 64, 1, seed, width + 1);
+    load(w, 64, 1, seed, LARGEST);
+}
+
+// A load of slot 1, which is written and marked, and the same load again, which leaves the bytes of before.
+fn load_twice(marked: [u8; 64], count: u64) {
+    let loaded = load(marked, 64, 1, 1, count);
+    show_last(&loaded);
+    let twice = load(loaded, 64, 1, 1, count);
+    show_last(&twice);
+    text(b"after both loads");
+    bytes_changed(&marked, &twice);
+}
+
+// Loads under marks, which stay: slot 1 is written.
+fn loads_under_marks(w: [u8; 64], width: u64)
+    requires { ⌜ 0 < width ⌝ }
+{
+    let marked = mark(mark(w, 64, 1, 0), 64, 1, width - 1);
+    show_last(&marked);
+    load_twice(marked, 3);
+    load_twice(marked, width);
 }
 
 // Refusal 10: slot 1, which begins at byte 45, has another state, or is blank and not zero.
-fn bad_slots(w: [u8; 64], width: u64) {
-    every_call(with(w, 45, 2), 64, 1, width);
-    every_call(with(w, 45, 0), 64, 1, width);
+fn bad_slots(w: [u8; 64], width: u64)
+    requires { ⌜ width ≤ 40 ⌝ }
+{
+    every_call(with(w, 45, 2), 64, 1, width, width + 1);
+    every_call(with(w, 45, 0), 64, 1, width, width + 1);
 }
 
-// Refusals 9 to 13, each also where later ones apply.
+// Refusals 9 to 14, each also where later ones apply.
 fn slots(code: u64, width: u64, steps: u64)
-    requires { ⌜ (0 < width) × (0 < steps) ⌝ }
+    requires { ⌜ (0 < width) × (width ≤ 40) × (0 < steps) ⌝ }
 {
     let b = make([255u8; 64], 64, code, 2);
-    every_call(b, 64, 2, 18446744073709551615);
-    every_call(b, 64, 18446744073709551615, 0);
-    every_call(b, 64, 1, width);
-    every_call(with(b, 55, 1), 64, 1, 0);
+    every_call(b, 64, 2, LARGEST, LARGEST);
+    every_call(b, 64, LARGEST, 0, 1);
+    every_call(b, 64, 1, width, width + 1);
+    every_call(with(b, 55, 1), 64, 1, 0, 1);
     let w = put(b, 64, 1, steps - 1, 4095);
     large_numbers(w, steps);
     positions(w, width);
+    counts(w, 0, width);
+    counts(w, LARGEST_SEED, width);
+    loads_under_marks(w, width);
     bad_slots(w, width);
 }
 
@@ -268,7 +327,7 @@ fn unused_bits(code: u64) {
     read_with(b, 51, 32);
     read_with(b, 51, 64);
     read_with(b, 51, 128);
-    every_call(with(b, 46, 16), 64, 0, 0);
+    every_call(with(b, 46, 16), 64, 0, 0, 1);
 }
 
 // A flip, a flip under a mark, a second mark, and the flip taken back. Leaves the slot with the flip alone.
@@ -340,4 +399,5 @@ fn main() {
     reads(3);
     reads(4);
     surveys();
+    loads::play_worked();
 }

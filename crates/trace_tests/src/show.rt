@@ -1,6 +1,10 @@
-// Answers on standard output, each after a colon.
+// Answers on standard output, each after a colon, and what a slot holds.
+use crate::last::marks;
+use crate::last::state;
+use crate::last::word;
 use libc::STDOUT_FILENO;
 use trace::Done;
+use trace::LoadAnswer;
 use trace::ReadAnswer;
 use trace::Reading;
 use trace::Refusal;
@@ -28,6 +32,15 @@ pub(crate) fn show_done(answer: Done) {
     match answer {
         Done::Accepted => text(b": accepted"),
         Done::Refused(r) => show_refusal(r),
+    }
+}
+
+// What a load answers, after a colon or another sign.
+pub(crate) fn show_load(sign: &[u8], answer: LoadAnswer) {
+    text(sign);
+    match answer {
+        LoadAnswer::Loaded(number) => named(b" number handed back ", number as u64),
+        LoadAnswer::Refused(r) => named(b" refused ", r.number()),
     }
 }
 
@@ -84,4 +97,18 @@ pub(crate) fn bytes_changed(old: &[u8; 64], new: &[u8; 64]) {
         return;
     }
     text(b", changed\n");
+}
+
+// A number in hexadecimal after its name, five bytes wide.
+fn named_hex(name: &[u8], n: u64) {
+    text(name);
+    io::print_hex(STDOUT_FILENO, n, 10);
+}
+
+// What the last slot holds, on a line.
+pub(crate) fn show_last(b: &[u8; 64]) {
+    named(b"the slot holds: state ", state(b));
+    named_hex(b", word ", word(b));
+    named_hex(b", marks ", marks(b));
+    text(b"\n");
 }

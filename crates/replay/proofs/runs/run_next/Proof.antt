@@ -22,7 +22,10 @@ returns c =
     (play-no-call (now (a .calls)) (now (a .b)) (now (a .out)) none, refl, refl)
 
 run-call-requires : tie.Need-run-call-requires
-run-call-requires c κs = search needs
+run-call-requires c κs =
+    let next = c .before .before .before in
+    let begins = rw (next .call .given .1) at (next .before .before .next-call .ensures) in
+    begins .fit
 
 enum-known-count : tie.Need-enum-known-count
 enum-known-count c = search needs

@@ -1,23 +1,12 @@
--- `replay::runs::run_query` meets its contract: a read, or else a survey.
-use mathlib.Core.Path.{refl}
+-- `replay::runs::run_query` meets its contract: a survey, or else a read.
+use mathlib.Core.Path.{_≡_, refl}
 use native.Mathlib.Omega.{arith}
 use Rattle.trace.proofs.Laws.{survey-step}
 use Rattle.replay.specs.Numbers.{callWith}
-use Rattle.replay.proofs.CallKinds.{survey-call}
 use Rattle.replay.proofs.WrittenAnswers.{numbers-after}
 use borrow.Author.Needs.{needs}
 use Rattle.replay.proofs.runs.run_query.Statement.{statement}
 use Rattle.replay.proofs.runs.run_query.Tie as tie
-
-read-requires : tie.Need-read-requires
-read-requires c κs = search needs
-
-read-numbers-requires : tie.Need-read-numbers-requires
-read-numbers-requires c κs = search needs
-
-returns : tie.Need-returns
-unfolding callWith
-returns c = rw (c .before .before .if1 .taken) (numbers-after (c .read-numbers .ensures) (c .before .read .ensures))
 
 survey-requires : tie.Need-survey-requires
 survey-requires c κs = search needs
@@ -25,19 +14,29 @@ survey-requires c κs = search needs
 survey-numbers-requires : tie.Need-survey-numbers-requires
 survey-numbers-requires c κs = search needs
 
+returns : tie.Need-returns
+unfolding callWith
+returns c = rw (c .before .before .if1 .taken, survey-step, ← c .before .survey .ensures) (c .survey-numbers .ensures, refl)
+
+read-requires : tie.Need-read-requires
+read-requires c κs = search needs
+
+read-numbers-requires : tie.Need-read-numbers-requires
+read-numbers-requires c κs = search needs
+
 returns-2 : tie.Need-returns-2
+unfolding callWith
 returns-2 c =
-    let call = c .before .before .before .before .args .call in
-    rw (survey-call (call .kind) (call .x) (call .y) (call .z) (omega arith), survey-step, ← c .before .survey .ensures)
-    (c .survey-numbers .ensures, refl)
+    let kind : c .before .before .before .before .args .call .kind ≡ 4 = omega arith in
+    rw kind (numbers-after (c .read-numbers .ensures) (c .before .read .ensures))
 
 pub run-query-spec : {M : Type 1} → statement M
 run-query-spec =
     tie.close
     (tie.spec
-    read-requires
-    read-numbers-requires
-    returns
     survey-requires
     survey-numbers-requires
+    returns
+    read-requires
+    read-numbers-requires
     returns-2)

@@ -1,18 +1,20 @@
 -- `script::answering::answer` meets its contract: each call answers and leaves what its definition says, and its line is written.
-use mathlib.Core.Path.{_≡_, refl, _∙_}
+use mathlib.Core.Path.{_≡_, refl}
 use mathlib.Core.List.{List}
 use Prim.Native.Nat.{ℕ}
 use Rattle.codes.specs.Answer.{Answer}
 use Rattle.trace.specs.Calls.{After, after}
+use Rattle.lines.specs.Text.{Begins, Lendable}
 use Rattle.lines.specs.Answers.{answerLine}
 use Rattle.script.specs.Answering.{called, answered}
 use borrow.Author.Needs.{needs}
 use Rattle.script.proofs.answering.answer.Statement.{statement}
 use Rattle.script.proofs.answering.answer.Tie as tie
 
--- the bytes that a call leaves, and the line of its answer
-same : {b : List ℕ} {a : Answer (List ℕ)} {s : After (List ℕ)} → after a b ≡ s → (b ≡ called s .bytes) × (answerLine a ≡ called s .line)
-same e = rw (← e) (refl, refl)
+-- the bytes that a call leaves, and the line of its answer, which is written
+same : (out out′ : List ℕ) {end : ℕ} {b : List ℕ} {a : Answer (List ℕ)} {s : After (List ℕ)} → after a b ≡ s
+    → Begins out (answerLine a) out′ end × Lendable out′ end → ((b ≡ called s .bytes) × Begins out (called s .line) out′ end) × Lendable out′ end
+same out out′ e w = rw (← e) ((refl, w .0), w .1)
 
 enum-known-call : tie.Need-enum-known-call
 enum-known-call c = search needs
@@ -53,14 +55,23 @@ done-line-requires-4 c κs = search needs
 enum-known-call-5 : tie.Need-enum-known-call-5
 enum-known-call-5 c = search needs
 
+load-requires : tie.Need-load-requires
+load-requires c κs = search needs
+
+load-line-requires : tie.Need-load-line-requires
+load-line-requires c κs = search needs
+
+enum-known-call-6 : tie.Need-enum-known-call-6
+enum-known-call-6 c = search needs
+
 clear-requires : tie.Need-clear-requires
 clear-requires c κs = search needs
 
 done-line-requires-5 : tie.Need-done-line-requires-5
 done-line-requires-5 c κs = search needs
 
-enum-known-call-6 : tie.Need-enum-known-call-6
-enum-known-call-6 c = search needs
+enum-known-call-7 : tie.Need-enum-known-call-7
+enum-known-call-7 c = search needs
 
 read-requires : tie.Need-read-requires
 read-requires c κs = search needs
@@ -88,69 +99,49 @@ same-length c = search needs
 
 returns : tie.Need-returns
 unfolding answered
-returns c =
-    let e = same (c .before .before .before .before .make .ensures) in
-    let w = c .done-line .ensures in
-    rw (c .before .before .before .before .before .before .before .call .given .1) ((e .0, (w .0 .0 ∙ e .1, w .0 .1)), w .1)
+returns c = let p = c .before .before .before .before in rw (p .before .before .before .call .given .1) (same _ _ (p .make .ensures) (c .done-line .ensures))
 
 same-length-2 : tie.Need-same-length-2
 same-length-2 c = search needs
 
 returns-2 : tie.Need-returns-2
 unfolding answered
-returns-2 c =
-    let e = same (c .before .before .before .before .put .ensures) in
-    let w = c .done-line2 .ensures in
-    rw (c .before .before .before .before .before .before .before .call2 .given .1) ((e .0, (w .0 .0 ∙ e .1, w .0 .1)), w .1)
+returns-2 c = let p = c .before .before .before .before in rw (p .before .before .before .call2 .given .1) (same _ _ (p .put .ensures) (c .done-line2 .ensures))
 
 same-length-3 : tie.Need-same-length-3
 same-length-3 c = search needs
 
 returns-3 : tie.Need-returns-3
 unfolding answered
-returns-3 c =
-    let e = same (c .before .before .before .before .flip .ensures) in
-    let w = c .done-line3 .ensures in
-    rw (c .before .before .before .before .before .before .before .call3 .given .1) ((e .0, (w .0 .0 ∙ e .1, w .0 .1)), w .1)
+returns-3 c = let p = c .before .before .before .before in rw (p .before .before .before .call3 .given .1) (same _ _ (p .flip .ensures) (c .done-line3 .ensures))
 
 same-length-4 : tie.Need-same-length-4
 same-length-4 c = search needs
 
 returns-4 : tie.Need-returns-4
 unfolding answered
-returns-4 c =
-    let e = same (c .before .before .before .before .mark .ensures) in
-    let w = c .done-line4 .ensures in
-    rw (c .before .before .before .before .before .before .before .call4 .given .1) ((e .0, (w .0 .0 ∙ e .1, w .0 .1)), w .1)
+returns-4 c = let p = c .before .before .before .before in rw (p .before .before .before .call4 .given .1) (same _ _ (p .mark .ensures) (c .done-line4 .ensures))
 
 same-length-5 : tie.Need-same-length-5
 same-length-5 c = search needs
 
 returns-5 : tie.Need-returns-5
 unfolding answered
-returns-5 c =
-    let e = same (c .before .before .before .before .clear .ensures) in
-    let w = c .done-line5 .ensures in
-    rw (c .before .before .before .before .before .before .before .call5 .given .1) ((e .0, (w .0 .0 ∙ e .1, w .0 .1)), w .1)
+returns-5 c = let p = c .before .before .before .before in rw (p .before .before .before .call5 .given .1) (same _ _ (p .load .ensures) (c .load-line .ensures))
 
 same-length-6 : tie.Need-same-length-6
 same-length-6 c = search needs
 
 returns-6 : tie.Need-returns-6
 unfolding answered
-returns-6 c =
-    let e = same (c .before .before .read .ensures) in
-    let w = c .read-line .ensures in
-    rw (c .before .before .before .before .before .call6 .given .1) ((e .0, (w .0 .0 ∙ e .1, w .0 .1)), w .1)
+returns-6 c = let p = c .before .before .before .before in rw (p .before .before .before .call6 .given .1) (same _ _ (p .clear .ensures) (c .done-line5 .ensures))
 
 same-length-7 : tie.Need-same-length-7
 same-length-7 c = search needs
 
 returns-7 : tie.Need-returns-7
 unfolding answered
-returns-7 c =
-    let w = c .survey-line .ensures in
-    rw (c .before .before .before .before .enum-told .given .1, ← c .before .before .survey .ensures) ((refl, w .0), w .1)
+returns-7 c = rw (c .before .before .before .before .before .call7 .given .1) (same _ _ (c .before .before .read .ensures) (c .read-line .ensures))
 
 same-length-8 : tie.Need-same-length-8
 same-length-8 c = search needs
@@ -158,6 +149,15 @@ same-length-8 c = search needs
 returns-8 : tie.Need-returns-8
 unfolding answered
 returns-8 c =
+    let w = c .survey-line .ensures in
+    rw (c .before .before .before .before .enum-told .given .1, ← c .before .before .survey .ensures) ((refl, w .0), w .1)
+
+same-length-9 : tie.Need-same-length-9
+same-length-9 c = search needs
+
+returns-9 : tie.Need-returns-9
+unfolding answered
+returns-9 c =
     let w = c .bytes-line .ensures in
     rw (c .before .before .before .enum-told2 .given .1) ((refl, w .0), w .1)
 
@@ -178,9 +178,12 @@ answer-spec =
     mark-requires
     done-line-requires-4
     enum-known-call-5
+    load-requires
+    load-line-requires
+    enum-known-call-6
     clear-requires
     done-line-requires-5
-    enum-known-call-6
+    enum-known-call-7
     read-requires
     read-line-requires
     enum-told
@@ -203,4 +206,6 @@ answer-spec =
     same-length-7
     returns-7
     same-length-8
-    returns-8)
+    returns-8
+    same-length-9
+    returns-9)

@@ -23,6 +23,12 @@ enum-known-change-3 c = search needs
 mark-content-requires : tie.Need-mark-content-requires
 mark-content-requires c κs = search needs
 
+enum-known-change-4 : tie.Need-enum-known-change-4
+enum-known-change-4 c = search needs
+
+load-content-requires : tie.Need-load-content-requires
+load-content-requires c κs = search needs
+
 enum-told : tie.Need-enum-told
 enum-told c = search needs
 
@@ -36,7 +42,10 @@ returns-3 : tie.Need-returns-3
 returns-3 c = rw (c .before .before .change3 .given .1) (c .mark-content .ensures)
 
 returns-4 : tie.Need-returns-4
-returns-4 c =
+returns-4 c = rw (c .before .before .change4 .given .1) (c .load-content .ensures)
+
+returns-5 : tie.Need-returns-5
+returns-5 c =
     let a = c .before .before .args in
     rw (c .enum-told .given .1) (clear-changed (projection (a .code)) (a .content))
 
@@ -50,8 +59,11 @@ change-content-spec =
     flip-content-requires
     enum-known-change-3
     mark-content-requires
+    enum-known-change-4
+    load-content-requires
     enum-told
     returns
     returns-2
     returns-3
-    returns-4)
+    returns-4
+    returns-5)

@@ -66,7 +66,7 @@ returns-3 c =
     let f = rw (placed .place .given .1) at (placed .before .before .find .ensures) in
     let changed = rw (given .content .given .1) at (given .before .before .change-content .ensures) in
     rw (c .before .before .write-content .ensures)
-    (change-accepted (now (a .b)) (a .slot) (a .change) _ _ f _ (rw (held .content-at .ensures) at changed))
+    (change-accepted (now (a .b)) (a .slot) (a .change) _ _ f _ _ (rw (held .content-at .ensures) at changed))
 
 pub change-slot-spec : {M : Type 1} → statement M
 change-slot-spec =

@@ -1,8 +1,7 @@
--- `trace::change::find_bit` meets its contract: a written slot, and a position in its word. The limit of words, shifted, is the position's bit.
+-- `trace::change::find_bit` meets its contract: a written slot, and a position in its word.
 use native.Mathlib.Omega.{arith}
 use borrow.Author.Tests.{le-leb}
 use Rattle.codes.proofs.Laws.{width-le}
-use Rattle.trace.proofs.Words.{shifted-limit}
 use borrow.Author.Needs.{needs}
 use Rattle.trace.proofs.change.find_bit.Statement.{statement}
 use Rattle.trace.proofs.change.find_bit.Tie as tie
@@ -23,16 +22,13 @@ returns : tie.Need-returns
 returns c =
     rw (c .before .before .before .content .given .1, le-leb _ _ (rw (c .before .width .ensures) at (c .if1 .taken)))
 
-word-limit-requires : tie.Need-word-limit-requires
-word-limit-requires c κs = search needs
+width-requires-2 : tie.Need-width-requires-2
+width-requires-2 c κs = search needs
 
-add-t12 : tie.Need-add-t12
-add-t12 c = search needs
-
-shr-t13 : tie.Need-shr-t13
-shr-t13 c =
+bit-requires : tie.Need-bit-requires
+bit-requires c κs =
     let start = c .before .before .before .before .before .before in
-    omega (arith, c .before .before .width .ensures, width-le (start .args .code))
+    (omega (arith, c .width2 .ensures, width-le (start .args .code)), omega (arith, c .width2 .ensures, c .before .before .width .ensures))
 
 returns-2 : tie.Need-returns-2
 returns-2 c = rw (c .enum-told .given .1)
@@ -42,12 +38,11 @@ returns-3 c = rw (c .enum-told2 .given .1)
 
 returns-4 : tie.Need-returns-4
 returns-4 c =
-    let start = c .before .before .before .before .before .before in
-    let inside = rw (c .before .before .width .ensures) at (c .before .if1 .left) in
+    let tested = c .before .before in
     record {
-      content = c .before .before .before .before .content .given .1;
-      inside = inside;
-      bit = rw (c .word-limit .ensures) (shifted-limit _ (start .args .position) inside);
+      content = tested .before .before .before .content .given .1;
+      inside = rw (tested .before .width .ensures) at (tested .if1 .left);
+      bit = rw (c .bit .ensures, c .before .width2 .ensures);
     }
 
 pub find-bit-spec : {M : Type 1} → statement M
@@ -59,9 +54,8 @@ find-bit-spec =
     enum-known-content
     width-requires
     returns
-    word-limit-requires
-    add-t12
-    shr-t13
+    width-requires-2
+    bit-requires
     returns-2
     returns-3
     returns-4)

@@ -1,6 +1,7 @@
 -- `trace::change::flip_content` meets its contract: the bit is found, or refused.
 use Rattle.codes.specs.Codes.{projection}
-use Rattle.trace.proofs.Changes.{bit-refused, flip-changed}
+use Rattle.trace.specs.Rules.{bitRows}
+use Rattle.trace.proofs.Changes.{behind-refused, flip-changed}
 use borrow.Author.Needs.{needs}
 use Rattle.trace.proofs.change.flip_content.Statement.{statement}
 use Rattle.trace.proofs.change.flip_content.Tie as tie
@@ -17,7 +18,9 @@ enum-known-word c = search needs
 returns : tie.Need-returns
 returns c =
     let a = c .before .before .before .before .args in
-    bit-refused (projection (a .code)) (a .content) (a .position) _ (rw (c .before .r .given .1) at (c .before .before .before .find-bit .ensures))
+    λ v slot i.
+    behind-refused (λ π x. bitRows π x (a .position)) (projection (a .code)) (a .content) v slot i _
+    (rw (c .before .r .given .1) at (c .before .before .before .find-bit .ensures))
 
 returns-2 : tie.Need-returns-2
 returns-2 c =
