@@ -2,7 +2,7 @@
 -- has at each number what the function gives there, so it is any list of that length which has the same. The view of a plain trace has its
 -- slots one by one.
 use Prim.Native.Nat.{ℕ, zero, suc, _+_, _<_}
-use mathlib.Core.Path.{_≡_, refl, sym, ap, _∙_}
+use mathlib.Core.Path.{_≡_, refl, sym, _∙_}
 use mathlib.Core.List.{List, map}
 use native.Mathlib.Nat.{add-zero, zero-add, add-suc, suc-add}
 use native.Mathlib.Omega.{arith}
@@ -14,13 +14,13 @@ use Rattle.trace.specs.Layout.{countIn, placeIn}
 use Rattle.trace.specs.View.{countOf, contentOf}
 use Rattle.trace.specs.Trace.{projectionIn, contentAt, viewIn}
 use Rattle.trace.specs.Plain.{Slot, Plain, projectionOf, slotOf, holds, viewOf}
+use Rattle.trace.proofs.Distinct.{span-length}
 
 -- ---- lists made number by number
 
 module _ {A : Type 0} (f : ℕ → A) where
   length-span : (k n : ℕ) → length (map f (span k n)) ≡ n
-  length-span k zero = refl
-  length-span k (suc n) = ap suc (length-span (suc k) n)
+  length-span k n = length-map (span k n) f ∙ span-length k n
 
   getD-span : (k n i : ℕ) (d : A) → i < n → getD (map f (span k n)) i d ≡ f (k + i)
   getD-span k zero i d h = absurd (omega arith)

@@ -1,5 +1,5 @@
--- The rows of the table of refusals that trace calls have, each under the words of the scope, or of its request, for when it is met. Refusal 1 is the codes' own
--- row. The calls' tables stand in 'Rules'.
+-- The rows of the table of refusals that trace calls have, each under the words of the scope, or of its request, for when it is met. Refusal 1 is
+-- the codes' own row. The calls' tables stand in 'Rules'.
 use mathlib.Core.Bool.{Bool, true, false, not, _&&_, _||_}
 use Prim.Native.Nat.{ℕ, _^_}
 use lib.Dec.{leb, ltb, eqb}
