@@ -73,6 +73,11 @@ impl Code {
         (1 + 2 * self.free.len() + self.columns - 1) as u32
     }
 
+    /// How many steps there are: a message is a step and the twelve bits of a reading.
+    pub fn steps(&self) -> u64 {
+        1 << (self.message_bits() - 12)
+    }
+
     fn column(&self, word: u64, c: usize) -> u8 {
         (word >> (4 * (self.columns - 1 - c)) & 15) as u8
     }

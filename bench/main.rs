@@ -39,6 +39,38 @@ impl Random {
         }
     }
 
+    /// A step, or one time in four one at either end of the range or beyond it, up to 64 bits.
+    fn step(&mut self, steps: u64) -> u64 {
+        match self.below(20) {
+            0 => 0,
+            1 => 1,
+            2 => steps - 1,
+            3 => steps,
+            4 => self.next(),
+            _ => self.below(steps),
+        }
+    }
+
+    /// A list of puts. Of ten, one starts so near 2 to the power 64 that start and steps could wrap, one goes to the last slot or past it, and one
+    /// has no steps; one time in eight the lists may differ in length.
+    fn put_list(&mut self, code: &Code, slots: u64) -> Call {
+        let (start, steps) = match self.below(10) {
+            0 => (u64::MAX - self.below(3), self.below(5)),
+            1 => (self.below(slots + 1), slots + self.below(2)),
+            2 => (self.below(slots + 1), 0),
+            _ => {
+                let start = self.below(slots);
+                (start, 1 + self.below(slots - start))
+            }
+        };
+        let readings = if self.below(8) == 0 { self.below(slots + 2) } else { steps };
+        Call::PutList {
+            start,
+            steps: (0..steps).map(|_| self.step(code.steps())).collect(),
+            readings: (0..readings).map(|_| self.reading()).collect(),
+        }
+    }
+
     /// A seed: what the last load handed back, one at either end, a power of 2, or any.
     fn seed(&mut self, handed_back: u32) -> u32 {
         match self.below(8) {
@@ -156,20 +188,22 @@ fn compare_search(number: u64, code: &Code, random: &mut Random) {
 fn random_call(random: &mut Random, code: &Code, slots: u64, handed_back: u32) -> Call {
     let slot = random.below(slots + 1);
     let position = random.below(code.width() as u64 + 1);
-    match random.below(14) {
-        0 | 1 => Call::Put { slot, step: random.below((1 << (code.message_bits() - 12)) + 1), reading: random.reading() },
+    match random.below(16) {
+        0 | 1 => Call::Put { slot, step: random.step(code.steps()), reading: random.reading() },
         2..=5 => Call::Flip { slot, position },
         6 | 7 => Call::Mark { slot, position },
         8 if random.below(3) == 0 => Call::Clear { slot },
         9 => Call::Survey,
         10 | 11 => Call::Load { slot, seed: random.seed(handed_back), count: random.count(code.width() as u64) },
+        12 | 13 => random.put_list(code, slots),
         _ => Call::Read { slot },
     }
 }
 
-fn run(b: &mut [u8], call: Call) -> Answer {
-    match call {
+fn run(b: &mut [u8], call: &Call) -> Answer {
+    match *call {
         Call::Put { slot, step, reading } => library::put(b, slot, step, reading).map(|_| vec![]),
+        Call::PutList { start, ref steps, ref readings } => library::put_list(b, start, steps, readings).map(|_| vec![]),
         Call::Flip { slot, position } => library::flip(b, slot, position).map(|_| vec![]),
         Call::Mark { slot, position } => library::mark(b, slot, position).map(|_| vec![]),
         Call::Load { slot, seed, count } => library::load(b, slot, seed, count).map(|number| vec![number as u64]),
@@ -183,25 +217,41 @@ fn run(b: &mut [u8], call: Call) -> Answer {
     }
 }
 
-/// How many loads were accepted (0), or refused with a number.
-type Loads = BTreeMap<u64, u64>;
+/// How many calls of a kind were accepted (0), or refused with a number.
+type Coverage = BTreeMap<&'static str, BTreeMap<u64, u64>>;
+
+fn kind(call: &Call) -> &'static str {
+    match call {
+        Call::Put { .. } => "put",
+        Call::PutList { steps, readings, .. } if steps.is_empty() && readings.is_empty() => "list of no puts",
+        Call::PutList { .. } => "list of puts",
+        Call::Flip { .. } => "flip",
+        Call::Mark { .. } => "mark",
+        Call::Load { .. } => "load",
+        Call::Clear { .. } => "clear",
+        Call::Read { .. } => "read",
+        Call::Survey => "survey",
+    }
+}
 
 /// A call of both. Gives the number that a load handed back.
-fn compare_call(call: Call, library: Answer, plain: Answer, loads: &mut Loads) -> Option<u32> {
+fn compare_call(call: &Call, library: Answer, plain: Answer, coverage: &mut Coverage) -> Option<u32> {
     expect(&format!("{call:?}"), &library, &plain);
+    let answered = plain.as_ref().err().copied().unwrap_or(0);
+    *coverage.entry(kind(call)).or_default().entry(answered).or_default() += 1;
     let Call::Load { .. } = call else { return None };
-    *loads.entry(plain.as_ref().err().copied().unwrap_or(0)).or_default() += 1;
     plain.ok().map(|values| values[0] as u32)
 }
 
-/// A random list of trace calls, between which slots are spoilt: each answer, and the bytes at the end. Then a call on too few bytes, and one on
+/// A random list of trace calls, between which slots are spoilt: each answer, and the bytes after each. Then a call on too few bytes, and one on
 /// an unfit trailer.
-fn compare_list(number: u64, code: &Code, random: &mut Random, loads: &mut Loads) {
+fn compare_list(number: u64, code: &Code, random: &mut Random, coverage: &mut Coverage) {
     let slots = 1 + random.below(3);
     let len = library::size(slots) as u64 + random.below(20);
     let mut buffer: Vec<u8> = (0..len).map(|_| random.next() as u8).collect();
     let mut plain = Trace::new(code, number, slots as usize, &buffer);
     expect("making", library::make(&mut buffer, number, slots), Ok(()));
+    expect("the bytes after making", &buffer, &plain.bytes());
     let mut handed_back = 0;
     for _ in 0..random.below(60) {
         if random.below(40) == 0 {
@@ -211,9 +261,9 @@ fn compare_list(number: u64, code: &Code, random: &mut Random, loads: &mut Loads
             plain.spoil(slot, bytes);
         }
         let call = random_call(random, code, slots, handed_back);
-        handed_back = compare_call(call, run(&mut buffer, call), plain.run(call), loads).unwrap_or(handed_back);
+        handed_back = compare_call(&call, run(&mut buffer, &call), plain.run(&call), coverage).unwrap_or(handed_back);
+        expect(&format!("the bytes after {call:?}"), &buffer, &plain.bytes());
     }
-    expect("the bytes after a list", &buffer, &plain.bytes());
 
     let short = buffer[..random.below(8) as usize].to_vec();
     // Bit 3 inverted makes a trailer unfit, in whichever byte.
@@ -222,7 +272,7 @@ fn compare_list(number: u64, code: &Code, random: &mut Random, loads: &mut Loads
     for (refusal, found) in [(7, short), (8, buffer)] {
         let mut left = found.clone();
         let call = random_call(random, code, slots, handed_back);
-        compare_call(call, run(&mut left, call), Err(refusal), loads);
+        compare_call(&call, run(&mut left, &call), Err(refusal), coverage);
         expect("the bytes after a call without a trace", left, found);
     }
 }
@@ -238,7 +288,7 @@ fn nanoseconds<T>(count: usize, mut call: impl FnMut(usize) -> T) -> f64 {
 
 /// A row of the measurement: nanoseconds of both, and their ratio.
 fn print_row(number: u64, call: &str, library: f64, plain: f64) {
-    println!("{number}     {call:8} {library:10.0} {plain:10.0} {:8.2}", library / plain);
+    println!("{number}     {call:9} {library:10.0} {plain:10.0} {:8.2}", library / plain);
 }
 
 fn measure(number: u64, code: &Code, random: &mut Random) {
@@ -264,7 +314,7 @@ fn measure(number: u64, code: &Code, random: &mut Random) {
         print_row(number, call, library, plain);
     }
     let search = nanoseconds(20, |i| code.search(&every, words[i].0, words[i].1));
-    println!("{number}     search   {:>10} {search:10.0}", "");
+    println!("{number}     search    {:>10} {search:10.0}", "");
 }
 
 /// Loads of three positions and of all, made by both on the slots of a trace in turn. The library's slots are bytes that it checks first; the
@@ -278,7 +328,7 @@ fn measure_load(number: u64, code: &Code, random: &mut Random) {
     library::make(&mut buffer, number, SLOTS).expect("a buffer with room");
     for slot in 0..SLOTS {
         let call = Call::Put { slot, step: slot, reading: random.below(4096) };
-        expect("a slot to load", run(&mut buffer, call), plain.run(call));
+        expect("a slot to load", run(&mut buffer, &call), plain.run(&call));
     }
     for count in [3, code.width() as u64] {
         let of_library = nanoseconds(COUNT, |i| library::load(&mut buffer, i as u64 % SLOTS, seeds[i], count));
@@ -288,37 +338,77 @@ fn measure_load(number: u64, code: &Code, random: &mut Random) {
     expect("the bytes after the loads", buffer, plain.bytes());
 }
 
+/// Puts one by one and the same puts in lists, made by both on the bytes of all slots: the time for a slot, in the fastest of many rounds, so that
+/// the ways can be compared with each other. Each has to leave the same bytes.
+fn measure_puts(number: u64, code: &Code, random: &mut Random) {
+    const SLOTS: usize = library::MAX_SLOTS as usize;
+    const ROUNDS: usize = 250;
+    let steps: Vec<u64> = (0..SLOTS).map(|_| random.below(code.steps())).collect();
+    let readings: Vec<u64> = (0..SLOTS).map(|_| random.below(4096)).collect();
+    let lists = |count| (0..).step_by(count).zip(steps.chunks(count).zip(readings.chunks(count)));
+    let row = |call: &str, of_library: &dyn Fn(&mut [u8]), of_plain: &dyn Fn(&mut [u8])| {
+        let mut buffer = vec![0; library::size(library::MAX_SLOTS)];
+        library::make(&mut buffer, number, library::MAX_SLOTS).expect("a buffer with room");
+        let mut plain = buffer.clone();
+        let (mut library_round, mut plain_round) = (f64::INFINITY, f64::INFINITY);
+        for _ in 0..ROUNDS {
+            library_round = library_round.min(nanoseconds(1, |_| of_library(&mut buffer)));
+            plain_round = plain_round.min(nanoseconds(1, |_| of_plain(&mut plain)));
+        }
+        expect(&format!("the bytes after {call}"), buffer, plain);
+        print_row(number, call, library_round / SLOTS as f64, plain_round / SLOTS as f64);
+    };
+
+    row(
+        "put",
+        &|b| (0..SLOTS).for_each(|i| library::put(b, i as u64, steps[i], readings[i]).expect("a fit put")),
+        &|b| (0..SLOTS).for_each(|i| trace::put(number, code, b, i as u64, steps[i], readings[i]).expect("a fit put")),
+    );
+    for count in [1, 25, SLOTS] {
+        row(
+            &format!("puts {count}"),
+            &|b| lists(count).for_each(|(start, (steps, readings))| library::put_list(b, start, steps, readings).expect("fit lists")),
+            &|b| lists(count).for_each(|(start, (steps, readings))| trace::put_list(number, code, b, start, steps, readings).expect("fit lists")),
+        );
+    }
+}
+
 fn measure_survey(number: u64, code: &Code, random: &mut Random) {
     let mut buffer = vec![0; library::size(library::MAX_SLOTS)];
     library::make(&mut buffer, number, library::MAX_SLOTS).expect("a buffer with room");
     for slot in 0..library::MAX_SLOTS {
-        let step = random.below(1 << (code.message_bits() - 12));
+        let step = random.below(code.steps());
         library::put(&mut buffer, slot, step, random.below(4096)).expect("a slot");
         for _ in 0..random.below(4) {
             library::flip(&mut buffer, slot, random.below(code.width() as u64)).expect("a position");
         }
     }
     let one = nanoseconds(200, |_| library::survey(&buffer));
-    println!("{number}     survey   {:10.0} slots a second", library::MAX_SLOTS as f64 / one * 1e9);
+    println!("{number}     survey    {:10.0} slots a second", library::MAX_SLOTS as f64 / one * 1e9);
 }
 
 fn main() {
     let mut random = Random(20261115);
     let codes: Vec<(u64, Code)> = (1..=4).map(|number| (number, Code::new(number))).collect();
-    let mut loads = Loads::new();
+    let mut coverage = Coverage::new();
     for (number, code) in &codes {
         compare_words(*number, code, &mut random, 200_000);
         compare_search(*number, code, &mut random);
         for _ in 0..2_500 {
-            compare_list(*number, code, &mut random, &mut loads);
+            compare_list(*number, code, &mut random, &mut coverage);
         }
     }
     println!("compared: 200000 words and 2500 lists of calls for each code, no difference");
-    println!("loads in these lists, by what they answered (0: accepted): {loads:?}");
+    println!("calls in these lists, by what they answered (0: accepted)");
+    for (kind, answers) in &coverage {
+        println!("{kind:15} {:6}: {answers:?}", answers.values().sum::<u64>());
+    }
     println!("buffers are not cleared between measurements");
-    println!("code  call     library ns   plain ns    ratio");
+    println!("put, and puts in lists of so many: for a slot, in the fastest round; all others: the mean");
+    println!("code  call      library ns   plain ns    ratio");
     for (number, code) in &codes {
         measure(*number, code, &mut random);
+        measure_puts(*number, code, &mut random);
         measure_load(*number, code, &mut random);
         measure_survey(*number, code, &mut random);
     }

@@ -2,6 +2,7 @@
 #include <inttypes.h>
 #include <stdio.h>
 #include <stdlib.h>
+#include <string.h>
 
 #include "mizbulett.h"
 
@@ -108,6 +109,62 @@ static void check_slot(struct code code)
     EXPECT(out[MIZBULETT_READ_READING], MIZBULETT_OVER);
     EXPECT(out[MIZBULETT_READ_WRONG], 1);
     EXPECT(out[MIZBULETT_READ_MARKS], 2);
+}
+
+/* A list of puts into the slots of a trace, with as many steps as readings. */
+static uint64_t put_list(size_t len, uint64_t start, const uint64_t *steps, const uint64_t *readings, size_t count)
+{
+    return mizbulett_put_list(trace, len, start, steps, count, readings, count);
+}
+
+/* Lists that fill a trace from its second slot on, whose last step and reading are the highest. They leave what single puts leave. A
+ * list that is both steps and readings is taken, and an empty one, which leaves everything. */
+static void check_put_list(struct code code)
+{
+    enum { SLOTS = 4, START = 1, LISTED = SLOTS - START };
+    const size_t len = MIZBULETT_SIZE(SLOTS);
+    const uint64_t steps[LISTED] = {5, 0, code.steps - 1}, readings[LISTED] = {6, 7, MIZBULETT_OVER};
+    uint8_t single[MIZBULETT_SIZE(SLOTS)];
+
+    EXPECT(mizbulett_make(trace, len, code.number, SLOTS), MIZBULETT_ACCEPTED);
+    for (int i = 0; i < LISTED; i++) {
+        EXPECT(mizbulett_put(trace, len, START + i, steps[i], readings[i]), MIZBULETT_ACCEPTED);
+    }
+    memcpy(single, trace, len);
+    EXPECT(mizbulett_make(trace, len, code.number, SLOTS), MIZBULETT_ACCEPTED);
+    EXPECT(put_list(len, START, steps, readings, LISTED), MIZBULETT_ACCEPTED);
+    EXPECT(put_list(len, SLOTS - 1, steps, readings, 0), MIZBULETT_ACCEPTED);
+    EXPECT(memcmp(trace, single, len), 0);
+
+    EXPECT(put_list(len, 0, readings, readings, 2), MIZBULETT_ACCEPTED);
+    EXPECT(mizbulett_read(trace, len, 1, out), MIZBULETT_ACCEPTED);
+    EXPECT(out[MIZBULETT_READ_STEP], 7);
+    EXPECT(out[MIZBULETT_READ_READING], 7);
+}
+
+/* What a list of puts refuses, in order: each call also meets all that is refused behind it. No byte changes. */
+static void check_put_list_refused(struct code code)
+{
+    enum { SLOTS = 2 };
+    const size_t len = MIZBULETT_SIZE(SLOTS);
+    const uint64_t steps[] = {0, code.steps, 0}, readings[] = {0, MIZBULETT_OVER + 1, 0}, fit[] = {0, 0};
+    uint8_t zeros[MIZBULETT_SIZE(0)] = {0}, before[MIZBULETT_SIZE(SLOTS)];
+
+    EXPECT(mizbulett_make(trace, len, code.number, SLOTS), MIZBULETT_ACCEPTED);
+    memcpy(before, trace, len);
+    EXPECT(mizbulett_put_list(zeros, sizeof zeros - 1, SLOTS, steps, 3, readings, 2), MIZBULETT_BUFFER_SHORT);
+    EXPECT(mizbulett_put_list(zeros, sizeof zeros, SLOTS, steps, 3, readings, 2), MIZBULETT_TRAILER_UNFIT);
+    EXPECT(mizbulett_put_list(trace, len, SLOTS, steps, 3, readings, 2), MIZBULETT_NO_SLOT);
+    EXPECT(mizbulett_put_list(trace, len, UINT64_MAX, steps, 3, readings, 2), MIZBULETT_NO_SLOT);
+    EXPECT(mizbulett_put_list(trace, len, SLOTS, steps, 0, readings, 0), MIZBULETT_NO_SLOT);
+    EXPECT(mizbulett_put_list(trace, len, 0, steps, 3, readings, 2), MIZBULETT_PAST_END);
+    EXPECT(mizbulett_put_list(trace, len, 1, steps, 2, readings, 3), MIZBULETT_PAST_END);
+    EXPECT(mizbulett_put_list(trace, len, 0, steps, 2, readings, 3), MIZBULETT_UNEVEN);
+    EXPECT(mizbulett_put_list(trace, len, 0, steps, 2, readings, 1), MIZBULETT_UNEVEN);
+    EXPECT(mizbulett_put_list(trace, len, 0, steps, 0, readings, 2), MIZBULETT_UNEVEN);
+    EXPECT(mizbulett_put_list(trace, len, 0, steps, 2, fit, 2), MIZBULETT_TOO_LARGE);
+    EXPECT(mizbulett_put_list(trace, len, 0, fit, 2, readings, 2), MIZBULETT_TOO_LARGE);
+    EXPECT(memcmp(trace, before, len), 0);
 }
 
 /* Expects the only slot to read step 1 and reading 2, with no wrong bit and as many marks. */
@@ -284,6 +341,8 @@ int main(void)
     for (size_t i = 0; i < sizeof codes / sizeof codes[0]; i++) {
         check_words(codes[i]);
         check_slot(codes[i]);
+        check_put_list(codes[i]);
+        check_put_list_refused(codes[i]);
         check_load(codes[i]);
     }
     check_unknown(0);

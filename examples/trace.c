@@ -47,9 +47,10 @@ int main(void)
     uint64_t out[MIZBULETT_SURVEY_VALUES];
 
     expect_accepted("make", mizbulett_make(trace, SIZE, MIZBULETT_CODE_36_O, SLOTS));
-    expect_accepted("put", mizbulett_put(trace, SIZE, 0, 74, 2385));
-    expect_accepted("put", mizbulett_put(trace, SIZE, 1, 75, MIZBULETT_OVER));
-    expect_accepted("put", mizbulett_put(trace, SIZE, 2, 76, 2401));
+
+    /* Slots 0 to 2 from lists, as a pump sends them, and slot 3 by itself. */
+    const uint64_t steps[] = {74, 75, 76}, readings[] = {2385, MIZBULETT_OVER, 2401};
+    expect_accepted("put_list", mizbulett_put_list(trace, SIZE, 0, steps, 3, readings, 3));
     expect_accepted("put", mizbulett_put(trace, SIZE, 3, 77, MIZBULETT_UNDER));
 
     /* Slot 0: two wrong bits and three marks, one of them on a wrong bit: 2 * 1 + 3 is at most 7, and it is mended. */
@@ -68,8 +69,9 @@ int main(void)
     uint32_t next = load_slot(trace, 1, 1, 3);
     load_slot(trace, 3, next, 3);
 
-    /* A step that the code has no room for, and more bits than a word has: refused, and nothing changes. */
+    /* A step that the code has no room for, lists past the end, and more bits than a word has: refused, and nothing changes. */
     printf("put 4 128 900: refused %" PRIu64 "\n", mizbulett_put(trace, SIZE, 4, 128, 900));
+    printf("puts 3 74,75,76 2385,4095,2401: refused %" PRIu64 "\n", mizbulett_put_list(trace, SIZE, 3, steps, 3, readings, 3));
     printf("load 0 1 37: refused %" PRIu64 "\n", mizbulett_load(trace, SIZE, 0, 1, 37, out));
 
     for (uint64_t slot = 0; slot < SLOTS; slot++) {

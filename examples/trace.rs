@@ -3,9 +3,13 @@
 #[path = "../include/mizbulett.rs"]
 mod mizbulett;
 
-use mizbulett::{flip, load, make, mark, put, read, size, survey, CODE_36_O, OVER, UNDER};
+use mizbulett::{flip, load, make, mark, put, put_list, read, size, survey, CODE_36_O, OVER, UNDER};
 
 const SLOTS: u64 = 5;
+
+/// Lists as a pump sends them.
+const STEPS: [u64; 3] = [74, 75, 76];
+const READINGS: [u64; 3] = [2385, OVER, 2401];
 
 /// Damages a slot as the seed says, and gives the number handed back: the seed of a next load.
 fn load_slot(trace: &mut [u8], slot: u64, seed: u32, count: u64) -> Result<u32, u64> {
@@ -17,9 +21,9 @@ fn load_slot(trace: &mut [u8], slot: u64, seed: u32, count: u64) -> Result<u32, 
 /// Makes and damages the trace. The number is that of a refused call.
 fn shift(trace: &mut [u8]) -> Result<(), u64> {
     make(trace, CODE_36_O, SLOTS)?;
-    put(trace, 0, 74, 2385)?;
-    put(trace, 1, 75, OVER)?;
-    put(trace, 2, 76, 2401)?;
+
+    // Slots 0 to 2 from lists, and slot 3 by itself.
+    put_list(trace, 0, &STEPS, &READINGS)?;
     put(trace, 3, 77, UNDER)?;
 
     // Slot 0: two wrong bits and three marks, one of them on a wrong bit: 2 * 1 + 3 is at most 7, and it is mended.
@@ -45,9 +49,11 @@ fn main() {
     let mut trace = [0; size(SLOTS)];
     shift(&mut trace).expect("every call is accepted");
 
-    // A step that the code has no room for, and more bits than a word has: refused, and nothing changes.
+    // A step that the code has no room for, lists past the end, and more bits than a word has: refused, and nothing changes.
     let refused = put(&mut trace, 4, 128, 900).expect_err("128 steps have the numbers 0 to 127");
     println!("put 4 128 900: refused {refused}");
+    let refused = put_list(&mut trace, 3, &STEPS, &READINGS).expect_err("two slots are left");
+    println!("puts 3 74,75,76 2385,4095,2401: refused {refused}");
     let refused = load(&mut trace, 0, 1, 37).expect_err("a word has 36 bits");
     println!("load 0 1 37: refused {refused}");
 

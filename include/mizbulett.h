@@ -17,21 +17,22 @@
  *
  * Every function returns 0 where the call is accepted, and else one number, below. A refused call writes nothing: neither
  * the buffer nor `out`. Any numbers and any bytes may be passed; the smallest number that applies is returned, but 5 on a
- * read comes after all others.
+ * read and 13 on a list of puts come after all others.
  *
  * Every function is proved to return exactly what its definition says, for every input, under these duties of the caller,
  * which no proof covers:
- *   - `buf` and `out` are not NULL, not even where `len` is 0;
- *   - `buf` has `len` bytes, `out` has as many numbers as its declaration says, and `len` is at most PTRDIFF_MAX;
- *   - `out` does not overlap `buf`, and is aligned for uint64_t;
- *   - nobody else writes `buf` or `out`, nor reads what is written, while the call runs.
+ *   - `buf`, `out`, `steps` and `readings` are not NULL, not even where they are empty;
+ *   - `buf` has `len` bytes, `out` has as many numbers as its declaration says, `steps` has `step_count` and `readings` has
+ *     `reading_count`, and none of them has more than PTRDIFF_MAX bytes;
+ *   - `out`, `steps` and `readings` do not overlap `buf` and are aligned for uint64_t; `steps` and `readings` may be the same list;
+ *   - nobody else writes `buf` or `out`, nor reads what is written, nor writes `steps` or `readings`, while the call runs.
  * Nothing is kept between calls. Calls on different buffers may run at the same time.
  *
  * Figures of the archive that `rt staticlib mizbulett` writes:
  *   machine   x86-64 with the System V calling convention (ELF); position independent; SSE registers and the red zone are used
- *   size      20.3 kB, of which 10.9 kB are code and constants (ls, size)
+ *   size      21.4 kB, of which 11.5 kB are code and constants (ls, size)
  *   memory    no heap, and no data that is written: .data and .bss have 0 bytes (size, nm)
- *   symbols   the eleven functions below are defined, and memset is needed (nm -g)
+ *   symbols   the twelve functions below are defined, and memset is needed (nm -g)
  *   stack     3,248 bytes at most, beside what memset takes, by the frames in the disassembly: the search in correct, read
  *             and survey calls itself once a column, ten deep. Of a painted stack no call used more than 3,232 bytes, on
  *             traces of 4,000 damaged slots
@@ -47,7 +48,7 @@
 /* Raised whenever a call's numbers or values change; docs/CHANGES.md says which. Neither the linker nor a call compares it: a caller
  * that was compiled with another version's header, or declares the calls by hand, as from Python, may lend too short an `out`,
  * which is then overrun, and take one value for another. Compile every caller anew. */
-#define MIZBULETT_VERSION 3
+#define MIZBULETT_VERSION 4
 
 /* The most slots that a trace has, and the bytes of a trace of n slots: what a buffer needs at least. */
 #define MIZBULETT_MAX_SLOTS 4000
@@ -76,8 +77,10 @@ enum {
     MIZBULETT_SLOT_BAD = 10,         /* the slot's bytes are none that any call writes */
     MIZBULETT_SLOT_BLANK = 11,       /* the slot is blank */
     MIZBULETT_NO_POSITION = 12,      /* the position is not below the width */
-    MIZBULETT_TOO_LARGE = 13,        /* the step is not below 128 (codes 1, 2) or 1024 (codes 3, 4), or the reading is above 4095 */
-    MIZBULETT_TOO_MANY = 14          /* the count of a load is above the width */
+    MIZBULETT_TOO_LARGE = 13,        /* a step is not below 128 (codes 1, 2) or 1024 (codes 3, 4), or a reading is above 4095 */
+    MIZBULETT_TOO_MANY = 14,         /* the count of a load is above the width */
+    MIZBULETT_PAST_END = 15,         /* the start of a list of puts plus the number of steps is above the number of slots */
+    MIZBULETT_UNEVEN = 16            /* the lists of steps and readings differ in length */
 };
 
 /* The codes, by the bits of a word and the rule for the top row, O or E. */
@@ -157,6 +160,12 @@ uint64_t mizbulett_make(uint8_t *buf, size_t len, uint64_t code, uint64_t slots)
 
 /* Writes a step and a reading into a slot, whatever it held, with no marks. Refusals 7, 8, 9, 13. */
 uint64_t mizbulett_put(uint8_t *buf, size_t len, uint64_t slot, uint64_t step, uint64_t reading);
+
+/* A list of puts, all or nothing: writes steps and readings in order into the slots from `start` on, as the single puts would.
+ * Nothing is written before every number of both lists has passed. Empty lists are accepted if the slot `start` exists.
+ * Refusals 7, 8, 9, 15, 16, 13, in this order: 9 is of `start`, 13 of any step or reading. */
+uint64_t mizbulett_put_list(uint8_t *buf, size_t len, uint64_t start, const uint64_t *steps, size_t step_count,
+                            const uint64_t *readings, size_t reading_count);
 
 /* Inverts one stored bit of a slot. Refusals 7 to 12. */
 uint64_t mizbulett_flip(uint8_t *buf, size_t len, uint64_t slot, uint64_t position);

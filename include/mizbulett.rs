@@ -29,6 +29,8 @@ pub const SLOT_BLANK: u64 = 11;
 pub const NO_POSITION: u64 = 12;
 pub const TOO_LARGE: u64 = 13;
 pub const TOO_MANY: u64 = 14;
+pub const PAST_END: u64 = 15;
+pub const UNEVEN: u64 = 16;
 
 // The codes, by the bits of a word and the rule for the top row.
 pub const CODE_36_O: u64 = 1;
@@ -80,6 +82,15 @@ mod c {
         pub fn mizbulett_correct(code: u64, word: u64, marks: u64, out: *mut [u64; CORRECT_VALUES]) -> u64;
         pub fn mizbulett_make(buf: *mut u8, len: usize, code: u64, slots: u64) -> u64;
         pub fn mizbulett_put(buf: *mut u8, len: usize, slot: u64, step: u64, reading: u64) -> u64;
+        pub fn mizbulett_put_list(
+            buf: *mut u8,
+            len: usize,
+            start: u64,
+            steps: *const u64,
+            step_count: usize,
+            readings: *const u64,
+            reading_count: usize,
+        ) -> u64;
         pub fn mizbulett_flip(buf: *mut u8, len: usize, slot: u64, position: u64) -> u64;
         pub fn mizbulett_mark(buf: *mut u8, len: usize, slot: u64, position: u64) -> u64;
         pub fn mizbulett_load(buf: *mut u8, len: usize, slot: u64, seed: u32, count: u64, out: *mut [u64; LOAD_VALUES]) -> u64;
@@ -120,6 +131,14 @@ pub fn make(buf: &mut [u8], code: u64, slots: u64) -> Result<(), u64> {
 
 pub fn put(buf: &mut [u8], slot: u64, step: u64, reading: u64) -> Result<(), u64> {
     accepted(unsafe { c::mizbulett_put(buf.as_mut_ptr(), buf.len(), slot, step, reading) }, ())
+}
+
+/// All of them, or none.
+pub fn put_list(buf: &mut [u8], start: u64, steps: &[u64], readings: &[u64]) -> Result<(), u64> {
+    let number = unsafe {
+        c::mizbulett_put_list(buf.as_mut_ptr(), buf.len(), start, steps.as_ptr(), steps.len(), readings.as_ptr(), readings.len())
+    };
+    accepted(number, ())
 }
 
 pub fn flip(buf: &mut [u8], slot: u64, position: u64) -> Result<(), u64> {

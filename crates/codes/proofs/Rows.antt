@@ -4,7 +4,7 @@
 -- Rows may be split into two lists, and an answer's value may be put in another form before the rows or behind them.
 use Prim.Native.Nat.{ℕ}
 use mathlib.Core.Path.{_≡_, refl, sym, ap, _∙_}
-use mathlib.Core.Bool.{Bool, true, false, cond}
+use mathlib.Core.Bool.{Bool, true, false, cond, false≢true}
 use mathlib.Core.Logic.{_⊎_, inl, inr, _↔_}
 use mathlib.Core.Option.{Option, none, some}
 use mathlib.Core.List.{List, [], _∷_, _++_}
@@ -118,19 +118,45 @@ passes-append rs ss e f = first-append rs ss e ∙ f
 pub refuses-behind : (rs ss : List Row) (k : ℕ) → Passes rs → Refuses ss k → Refuses (rs ++ ss) k
 refuses-behind rs ss k e f = first-append rs ss e ∙ f
 
--- where a table's last row has another number, the rows before it decide
-pub last-apart : (front : List Row) (last : Row) (n : ℕ) → (n ≡ last .number → ⊥) → Refuses (front ++ (last ∷ [])) n ↔ Refuses front n
-last-apart [] last n apart = go (last .met)
+-- a table passes where all rows but the last do, and the last isn't met
+pub passes-last : (front : List Row) (last : Row) → Passes (front ++ (last ∷ [])) ↔ Passes front × (last .met ≡ false)
+passes-last front last =
+    (λ e. (before front e, passes-first last [] (passes-behind front (last ∷ []) e) .0), λ k. passes-append front (last ∷ []) (k .0) (rw (k .1)))
   where
-    go : (t : Bool) → cond t (some (last .number)) none ≡ some n ↔ none ≡ some n
-    go true = (λ e. let same : last .number ≡ n = cc in absurd (apart (sym same)), λ e. let z : _≡_ {A = ℕ} 0 1 = cc in absurd (omega arith))
-    go false = (λ e. e, λ e. e)
-last-apart (r ∷ front) last n apart = go (r .met) (last-apart front last n apart)
-  where
-    go : (t : Bool) → (Refuses (front ++ (last ∷ [])) n ↔ Refuses front n)
-        → cond t (some (r .number)) (firstMet (front ++ (last ∷ []))) ≡ some n ↔ cond t (some (r .number)) (firstMet front) ≡ some n
-    go true rest = (λ e. e, λ e. e)
-    go false rest = rest
+    before : (rs : List Row) → Passes (rs ++ (last ∷ [])) → Passes rs
+    before [] e = refl
+    before (r ∷ rs) e = let first = passes-first r (rs ++ (last ∷ [])) e in rw (first .0) (before rs (first .1))
+
+-- where a number stands only before some rows, those before them decide
+module _ (after : List Row) (n : ℕ) (apart : Among n (numbers after) → ⊥) where
+  pub front-decides : (front : List Row) → Refuses (front ++ after) n ↔ Refuses front n
+  front-decides [] = (λ e. absurd (apart (first-among after n e)), λ e. let z : _≡_ {A = ℕ} 0 1 = cc in absurd (omega arith))
+  front-decides (r ∷ front) = go (r .met) (front-decides front)
+    where
+      go : (t : Bool) → (Refuses (front ++ after) n ↔ Refuses front n)
+          → cond t (some (r .number)) (firstMet (front ++ after)) ≡ some n ↔ cond t (some (r .number)) (firstMet front) ≡ some n
+      go true rest = (λ e. e, λ e. e)
+      go false rest = rest
+
+-- where a row's number stands once in a table, it is the first that is met exactly where those before it pass and it is met
+module _ (row : Row) (after : List Row) (later : Among (row .number) (numbers after) → ⊥) where
+  pub row-decides : (front : List Row) → (Among (row .number) (numbers front) → ⊥)
+      → Refuses (front ++ (row ∷ after)) (row .number) ↔ Passes front × (row .met ≡ true)
+  row-decides [] apart = go (row .met)
+    where
+      go : (t : Bool) → cond t (some (row .number)) (firstMet after) ≡ some (row .number) ↔ Passes [] × (t ≡ true)
+      go true = (λ e. (refl, refl), λ k. refl)
+      go false = (λ e. absurd (later (first-among after (row .number) e)), λ k. absurd (false≢true (k .1)))
+  row-decides (r ∷ front) apart = go (r .met) (row-decides front (λ k. apart (inr k)))
+    where
+      go : (t : Bool) → (Refuses (front ++ (row ∷ after)) (row .number) ↔ Passes front × (row .met ≡ true))
+          → cond t (some (r .number)) (firstMet (front ++ (row ∷ after))) ≡ some (row .number)
+          ↔ (cond t (some (r .number)) (firstMet front) ≡ none) × (row .met ≡ true)
+      go true rest = (
+        (λ e. let same : r .number ≡ row .number = cc in absurd (apart (inl (sym same)))),
+        (λ k. let e = k .0 in let z : _≡_ {A = ℕ} 0 1 = cc in absurd (omega arith)),
+      )
+      go false rest = rest
 
 pub refuses-front : (rs ss : List Row) (k : ℕ) → Refuses rs k → Refuses (rs ++ ss) k
 refuses-front [] ss k e = let z : _≡_ {A = ℕ} 0 1 = cc in absurd (omega arith)

@@ -8,7 +8,7 @@ use mathlib.Core.List.{List, [], _∷_}
 use Rattle.codes.specs.Answer.{Answer, accepted, refused, Row, mapAnswer, Passes, Refuses}
 use Rattle.codes.specs.Claims.{Among, ByTable}
 use Rattle.codes.proofs.Rows.{not-refused, refused-among}
-use Rattle.trace.specs.Calls.{Call, put, flip, mark, load, clear, read, survey, After}
+use Rattle.trace.specs.Calls.{Call, put, putList, flip, mark, load, clear, read, survey, After}
 use Rattle.trace.specs.Answers.{surveyValues}
 use Rattle.trace.specs.Trace.{surveyIn}
 use Rattle.trace.specs.Claims.{numbersOf, Harmless}
@@ -24,6 +24,7 @@ positive = each (λ n. not (has (0 ∷ []) n))
 
 calls-positive : (c : Call) → positive (numbersOf c) ≡ true
 calls-positive (put slot step reading) = refl
+calls-positive (putList start steps readings) = refl
 calls-positive (flip slot position) = refl
 calls-positive (mark slot position) = refl
 calls-positive (load slot seed count) = refl

@@ -30,7 +30,7 @@ pub record ReturnNumbers : Type 0 where
   pub correct : (code word marks : ℕ) (out : List ℕ)
       → ReturnsBy correctingNumbers (correctingRows code word marks) out (returns (under code (λ π. correcting π word marks)) out)
   pub makings : (m : Making) (buf : List ℕ) → ReturnsBy makingNumbers (makeRows m buf) buf (leaves (make m buf))
-  -- put, flip, mark, load and clear: what is lent is the buffer, and to a load `out` too
+  -- put, list of puts, flip, mark, load and clear: what is lent to be written is the buffer, and to a load `out` too
   pub changes : (c : Call) (buf : List ℕ) → ReturnsBy (numbersOf c) (refusalsIn c buf) buf (leaves (onBytes c buf))
   pub loads : (slot seed count : ℕ) (buf out : List ℕ)
       → ReturnsBy (numbersOf (load slot seed count)) (refusalsIn (load slot seed count) buf) out (returns (onBytes (load slot seed count) buf .answer) out)

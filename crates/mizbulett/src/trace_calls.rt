@@ -7,7 +7,7 @@ use trace::Survey;
 use trace::SurveyAnswer;
 ghost use mathlib.Core.Path.{_≡_};
 ghost use Rattle.codes.specs.Answer.{mapAnswer};
-ghost use Rattle.trace.specs.Calls.{put, flip, mark, load, clear, read};
+ghost use Rattle.trace.specs.Calls.{put, putList, flip, mark, load, clear, read};
 ghost use Rattle.trace.specs.Trace.{onBytes, make, surveyIn};
 ghost use Rattle.trace.specs.Answers.{doneAnswer};
 ghost use Rattle.mizbulett.specs.Returned.{presence, numberOf, returned, returns, leaves, surveyFlagged};
@@ -36,6 +36,20 @@ pub extern "C" fn mizbulett_put(buf: &mut [u8], slot: u64, step: u64, reading: u
     ensures { λ r. ⌜ returned r (now (buf .exit)) ≡ leaves (onBytes (put slot step reading) (now (buf .entry))) ⌝ }
 {
     number(trace::put(buf, slot, step, reading))
+}
+
+// Writes a list of steps and a list of readings into the slots from a first one on: all of them, or none. Refusals 7, 8, 9, 15, 16 and 13.
+#[no_mangle]
+pub extern "C" fn mizbulett_put_list(
+    buf: &mut [u8],
+    start: u64,
+    steps: &[u64],
+    readings: &[u64],
+) -> u64
+    ensures { λ r. ⌜ returned r (now (buf .exit))
+        ≡ leaves (onBytes (putList start (now (steps .entry)) (now (readings .entry))) (now (buf .entry))) ⌝ }
+{
+    number(trace::put_list(buf, start, steps, readings))
 }
 
 // Inverts a stored bit. Refusals 7 to 12.

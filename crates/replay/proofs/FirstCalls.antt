@@ -3,34 +3,24 @@
 -- bound on their number gives the same calls.
 use Prim.Native.Nat.{ℕ, zero, suc, _+_, _<_, _≤_}
 use mathlib.Core.Path.{_≡_, refl}
-use mathlib.Core.Bool.{true, false, and-eq-true-iff}
+use mathlib.Core.Bool.{false}
 use mathlib.Core.List.{List, [], _∷_}
 use native.Mathlib.Omega.{arith}
-use lib.Dec.{leb, ltb, eqb}
 use lib.ListN.{length, getD, drop, length-drop}
-use borrow.Author.Tests.{le-leb, lt-leb, leb-true}
+use borrow.Author.Tests.{le-leb, lt-leb}
+use Rattle.trace.specs.Calls.{Call}
 use Rattle.trace.specs.Trace.{onBytes}
-use Rattle.replay.specs.declared.calls.CallNumbers.{CallNumbers}
-use Rattle.replay.specs.Numbers.{kinds, isCall, callsIn, answerNumbers, roomFor}
+use Rattle.replay.specs.declared.answers.Written.{Written}
+use Rattle.replay.specs.Numbers.{isCall, callsIn, answerNumbers, roomFor}
 use Rattle.replay.specs.ContractsOfPlay.{nothing, play}
-use Rattle.replay.specs.ContractsOfSteps.{callOf, BeginsWith, RanAs, RanNext}
-
--- a call is within its list
-call-within : (xs : List ℕ) → isCall xs ≡ true → 2 + getD xs 1 0 ≤ length xs
-unfolding isCall
-call-within xs e =
-    let a = and-eq-true-iff (leb 2 (length xs)) _ .0 e in
-    let b = and-eq-true-iff (ltb (getD xs 0 0) (length kinds)) _ .0 (a .1) in
-    let c = and-eq-true-iff (eqb (getD xs 1 0) (getD kinds (getD xs 0 0) 0)) _ .0 (b .1) in
-    let d = and-eq-true-iff (leb (2 + getD xs 1 0) (length xs)) _ .0 (c .1) in
-    leb-true _ _ (d .0)
+use Rattle.replay.specs.ContractsOfSteps.{BeginsWith, RunsCall, nextRun, RunsNext}
 
 no-calls : (n : ℕ) (xs : List ℕ) → isCall xs ≡ false → callsIn n xs ≡ []
 unfolding callsIn
 no-calls zero xs e = refl
 no-calls (suc n) xs e = rw e
 
-first-call : (n : ℕ) {xs : List ℕ} {call : CallNumbers} {k : ℕ} → BeginsWith xs call k → callsIn (suc n) xs ≡ callOf call ∷ callsIn n (drop k xs)
+pub first-call : (n : ℕ) {xs : List ℕ} {c : Call} {k : ℕ} → BeginsWith xs c k → callsIn (suc n) xs ≡ c ∷ callsIn n (drop k xs)
 unfolding callsIn
 first-call n h = rw (h .whole, h .named, h .size)
 
@@ -39,23 +29,25 @@ module _ (xs b out : List ℕ) where
   unfolding play
   play-no-call e n = rw (no-calls n xs e)
 
-  pub play-no-room : {call : CallNumbers} {k : ℕ} → BeginsWith xs call k → length out < roomFor (callOf call) (onBytes (callOf call) b .answer)
+  play-no-room : {c : Call} {k : ℕ} → BeginsWith xs c k → length out < roomFor c (onBytes c b .answer)
       → (n : ℕ) → play onBytes (callsIn n xs) (length out) b ≡ nothing b
   unfolding play callsIn
   play-no-room h lt zero = refl
   play-no-room h lt (suc n) = rw (first-call n h, lt-leb _ _ lt)
 
-  pub ran-next : {call : CallNumbers} {k count : ℕ} {b′ out′ : List ℕ} → BeginsWith xs call k → RanAs (callOf call) b out count b′ out′
-      → RanNext xs b out k count b′ out′
+  -- it ran, or it had no room
+  pub runs-next : {c : Call} {k : ℕ} (b′ out′ : List ℕ) → BeginsWith xs c k → (w : Written) → RunsCall c b out b′ out′ w
+      → RunsNext xs b out b′ out′ (nextRun k w)
   unfolding play
-  ran-next {call} h r =
+  runs-next {c} b′ out′ h (Written.Numbers count) r =
       record {
-        numbers = answerNumbers (onBytes (callOf call) b .answer);
+        numbers = answerNumbers (onBytes c b .answer);
         written = r .answer;
         played = λ n. rw (first-call n h, le-leb _ _ (r .room), r .answer .size, r .buffer);
-        within = rw (h .size) (call-within xs (h .whole));
-        some = omega arith;
+        within = h .within;
+        some = omega (arith, h .size);
       }
+  runs-next b′ out′ h Written.NoRoom r = (play-no-room h (r .0), r .1, r .2)
 
 -- any two bounds that are at least the length give the same calls
 pub calls-enough : (m n : ℕ) (xs : List ℕ) → length xs ≤ m → length xs ≤ n → callsIn m xs ≡ callsIn n xs

@@ -6,19 +6,16 @@ use mathlib.Core.List.{List, [], _++_, append-assoc, append-nil}
 use native.Mathlib.Nat.{add-zero}
 use native.Mathlib.Omega.{arith}
 use lib.ListN.{length, take, drop, length-append, length-drop, take-append-drop, drop-of-length-le}
-use lib.Seq.{take-all, take-at, drop-at, drop-drop, length-take-le}
+use lib.Seq.{take-at, drop-at, drop-drop, length-take-le}
 use borrow.Rule.Slice.PartMut.{putMid, put-same}
 use Rattle.trace.specs.Trace.{onBytes}
 use Rattle.replay.specs.Numbers.{callsIn, callsOf}
 use Rattle.replay.specs.ContractsOfPlay.{Played, nothing, before, play}
 use Rattle.replay.specs.declared.runs.NextRun.{NextRun}
 use Rattle.replay.specs.ContractsOfSteps.{RanNext, RunsNext}
+use Rattle.replay.proofs.Rows.{rest-part}
 use Rattle.replay.proofs.FirstCalls.{calls-enough}
 use Rattle.replay.proofs.Plays.{LeftBy}
-
--- the part from a place to the end
-rest-part : (xs : List ℕ) (n : ℕ) → take (length xs - n) (drop n xs) ≡ drop n xs
-rest-part xs n = take-all (length xs - n) (drop n xs) (rw length-drop (omega arith))
 
 -- `b₀` and `answers₀` were lent, and became `b` and `answers`: `ran` calls took the numbers before `at`, and wrote those before `written`
 pub record Progress (calls b₀ answers₀ b answers : List ℕ) (ran at written : ℕ) : Type 0 where

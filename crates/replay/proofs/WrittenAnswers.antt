@@ -1,6 +1,6 @@
--- Answers that are written, and the calls that gave them. An answer's numbers are its two first and its values, one after the other. A put, flip,
--- mark or clear gives no values and a load at most one, so two places, or three, are room enough for any answer; a query leaves the buffer, so it
--- may run before the room is known.
+-- Answers that are written, and the calls that gave them. An answer's numbers are its two first and its values, one after the other. A put, list
+-- of puts, flip, mark or clear gives no values and a load at most one, so two places, or three, are room enough for any answer; a query leaves the
+-- buffer, so it may run before the room is known.
 use Prim.Native.Nat.{ℕ, suc, _+_, _≤_}
 use mathlib.Core.Path.{_≡_, ap}
 use mathlib.Core.List.{List, [], _∷_, _++_}

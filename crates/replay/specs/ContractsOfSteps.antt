@@ -12,7 +12,7 @@ use Rattle.replay.specs.declared.calls.CallNumbers.{CallNumbers}
 use Rattle.replay.specs.declared.calls.Next.{Next}
 use Rattle.replay.specs.declared.answers.Written.{Written}
 use Rattle.replay.specs.declared.runs.NextRun.{NextRun}
-use Rattle.replay.specs.Numbers.{kinds, seedFits, isCall, callWith, callsIn, answerNumbers, roomFor}
+use Rattle.replay.specs.Numbers.{kinds, seedFits, isCall, callWith, listWith, callIn, callsIn, answerNumbers, roomFor}
 use Rattle.replay.specs.ContractsOfPlay.{nothing, before, play}
 
 -- the numbers that are written of an answer
@@ -45,14 +45,19 @@ pub record Fit (c : CallNumbers) : Type 0 where
   pub seed : seedFits (c .kind) (c .y) ≡ true
 
 -- the call that a list of numbers begins with, and how many of them it takes
-pub record BeginsWith (xs : List ℕ) (c : CallNumbers) (k : ℕ) : Type 0 where
+pub record BeginsWith (xs : List ℕ) (c : Call) (k : ℕ) : Type 0 where
   pub whole : isCall xs ≡ true
-  pub named : c ≡ record { kind = getD xs 0 0; x = getD xs 2 0; y = getD xs 3 0; z = getD xs 4 0 }
-  pub fit : Fit c
+  pub named : callIn xs ≡ c
   pub size : k ≡ 2 + getD xs 1 0
+  pub within : k ≤ length xs
+
+-- the steps and the readings of a list of puts that takes so many numbers
+abbrev pub listNumbers : ℕ → List ℕ → List ℕ
+listNumbers size xs = take (size - 4) (drop 4 xs)
 
 abbrev pub NextIn : List ℕ → Next → Type 0
-NextIn xs (Next.Call c size) = BeginsWith xs c size
+NextIn xs (Next.Call c size) = BeginsWith xs (callOf c) size × Fit c
+NextIn xs (Next.List start count size) = BeginsWith xs (listWith start count (listNumbers size xs)) size × (4 + count ≤ size)
 NextIn xs Next.Stop = isCall xs ≡ false
 
 -- numbers that are written to the front of a slice, where it has room
@@ -83,6 +88,11 @@ pub record RanNext (xs b out : List ℕ) (size count : ℕ) (b′ out′ : List 
       ≡ before 1 numbers (play onBytes (callsIn n (drop size xs)) (length out - count) b′)
   pub within : size ≤ length xs
   pub some : 1 ≤ size
+
+-- a call that takes so many numbers, by what was written of its answer
+abbrev pub nextRun : ℕ → Written → NextRun
+nextRun size (Written.Numbers count) = NextRun.Ran size count
+nextRun size Written.NoRoom = NextRun.Stop
 
 abbrev pub RunsNext : List ℕ → List ℕ → List ℕ → List ℕ → List ℕ → NextRun → Type 0
 RunsNext xs b out b′ out′ (NextRun.Ran size count) = RanNext xs b out size count b′ out′

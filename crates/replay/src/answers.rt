@@ -36,7 +36,7 @@ fn refused_numbers(r: Refusal) -> AnswerNumbers
     }
 }
 
-// Of a put, flip, mark or clear.
+// Of a put, list of puts, flip, mark or clear.
 pub(crate) fn done_numbers(answer: Done) -> AnswerNumbers
     ensures { λ o. ⌜ NumbersOf (doneAnswer answer) o × (o .count ≡ 0) ⌝ }
 {

@@ -2,7 +2,7 @@
 ghost use mathlib.Core.Path.{_≡_};
 ghost use Prim.Native.Nat.{_<_};
 ghost use lib.ListN.{length, getD};
-ghost use Rattle.replay.specs.Numbers.{kinds, seedFits};
+ghost use Rattle.replay.specs.Numbers.{kinds, countFits, seedFits};
 ghost use Rattle.replay.specs.ContractsOfSteps.{NextIn};
 
 // The kinds of calls.
@@ -20,8 +20,7 @@ pub(crate) const SURVEY: u64 = 5;
 
 pub(crate) const LOAD: u64 = 6;
 
-// How many kinds of calls there are.
-const KINDS: u64 = 7;
+const LIST: u64 = 7;
 
 // The first number that is no seed: a seed has 32 bits.
 const SEED_LIMIT: u64 = 4294967296;
@@ -34,9 +33,10 @@ pub(crate) struct CallNumbers {
     pub z: u64,
 }
 
-// A call and how many numbers it takes, or none.
+// A call and how many numbers it takes, or none. Of a list of puts, its start and how many steps it has: its lists stay in the slice.
 pub(crate) enum Next {
     Call(CallNumbers, usize),
+    List(u64, usize, usize),
     Stop,
 }
 
@@ -54,6 +54,23 @@ fn count_of(kind: u64) -> u64
         LOAD => 3,
         _ => 0,
     }
+}
+
+// Whether a count is that of its kind; of a list of puts, whether y steps are within it.
+fn count_fits(kind: u64, count: u64, y: u64) -> bool
+    ensures { λ r. ⌜ r ≡ countFits kind count y ⌝ }
+{
+    if kind < LIST {
+        return count == count_of(kind);
+    }
+    if LIST < kind {
+        return false;
+    }
+    // No sum is formed that could wrap.
+    if count < 2 {
+        return false;
+    }
+    y <= count - 2
 }
 
 // Whether a call's second number is a 32-bit number, where it is a seed: a load's.
@@ -85,16 +102,16 @@ pub(crate) fn next_call(xs: &[u64]) -> Next
     }
     let kind = xs[0];
     let count = xs[1];
-    if KINDS <= kind {
-        return Next::Stop;
-    }
-    if count != count_of(kind) {
+    let y = number(xs, 3);
+    if !count_fits(kind, count, y) {
         return Next::Stop;
     }
     if xs.len() - 2 < count as usize {
         return Next::Stop;
     }
-    let y = number(xs, 3);
+    if kind == LIST {
+        return Next::List(number(xs, 2), y as usize, 2 + count as usize);
+    }
     if !seed_fits(kind, y) {
         return Next::Stop;
     }

@@ -17,8 +17,10 @@ use crate::calls::SURVEY;
 use crate::calls::next_call;
 ghost use mathlib.Core.Path.{_≡_};
 ghost use Prim.Native.Nat.{_≤_};
+ghost use lib.ListN.{length};
 ghost use Rattle.trace.specs.Trace.{onBytes};
-ghost use Rattle.replay.specs.ContractsOfSteps.{NumbersOf, callOf, IsChange, IsQuery, IsLoad, Fit, RunsCall, RunsNext};
+ghost use Rattle.replay.specs.Numbers.{listWith};
+ghost use Rattle.replay.specs.ContractsOfSteps.{NumbersOf, callOf, IsChange, IsQuery, IsLoad, Fit, RunsCall, nextRun, RunsNext};
 ghost use Rattle.replay.specs.Replay.{Replayed};
 
 // How many numbers a call took and its answer has, or that no call ran.
@@ -89,17 +91,43 @@ fn run_call(b: &mut [u8], call: CallNumbers, out: &mut [u64]) -> Written
     write_answer(out, run_load(b, call))
 }
 
+// Runs a list of puts that has room in `out`, and no other. The first `count` of its numbers are its steps, all others its readings.
+fn run_list(b: &mut [u8], start: u64, count: usize, numbers: &[u64], out: &mut [u64]) -> Written
+    requires { ⌜ count ≤ length (now numbers) ⌝ }
+    ensures { λ r. ⌜ RunsCall (listWith start count (now (numbers .entry)))
+        (now (b .entry)) (now (out .entry)) (now (b .exit)) (now (out .exit)) r ⌝ }
+{
+    if out.len() < 2 {
+        return Written::NoRoom;
+    }
+    let steps = &numbers[..count];
+    let readings = &numbers[count..];
+    let answer = trace::put_list(b, start, steps, readings);
+    write_answer(out, done_numbers(answer))
+}
+
+// What running a call that takes `size` numbers comes to, by what was written of its answer.
+fn next_run(size: usize, written: Written) -> NextRun
+    ensures { λ r. ⌜ r ≡ nextRun size written ⌝ }
+{
+    match written {
+        Written::Numbers(count) => NextRun::Ran(size, count),
+        Written::NoRoom => NextRun::Stop,
+    }
+}
+
 // Runs the call that a list of numbers begins with, if it is whole and has room for its answer.
 fn run_next(b: &mut [u8], calls: &[u64], out: &mut [u64]) -> NextRun
     ensures { λ r. ⌜ RunsNext (now (calls .entry)) (now (b .entry)) (now (out .entry)) (now (b .exit)) (now (out .exit)) r ⌝ }
 {
-    let Next::Call(call, size) = next_call(calls) else {
-        return NextRun::Stop;
-    };
-    let Written::Numbers(count) = run_call(b, call, out) else {
-        return NextRun::Stop;
-    };
-    NextRun::Ran(size, count)
+    match next_call(calls) {
+        Next::Call(call, size) => next_run(size, run_call(b, call, out)),
+        Next::List(start, steps, size) => next_run(
+            size,
+            run_list(b, start, steps, &calls[4..size], out),
+        ),
+        Next::Stop => NextRun::Stop,
+    }
 }
 
 // Runs a list of calls while each is whole and has room for its answer, a load for an accepted one's, and answers how many ran.

@@ -7,6 +7,7 @@
 //     save FILE          writes the lent bytes to a file
 //     make 1 4           code, slots
 //     put 0 74 2385      slot, step, reading
+//     puts 1 7,8 100,200 start, steps, readings: lists with commas, `-` for an empty one
 //     flip 0 3           slot, position
 //     mark 0 35          slot, position
 //     load 0 1 3         slot, seed, count: `ok` with the number handed back

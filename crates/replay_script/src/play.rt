@@ -10,17 +10,22 @@ use lines::trouble_line;
 use script::Call;
 use script::Command;
 use script::Lent;
+use script::Lists;
+use script::NUMBERS;
 use script::answer;
+use script::answer_list;
 use script::argument;
 use script::bare;
 use script::lend;
 use script::lend_input;
 use script::parse_line;
+use script::take_lists;
 use trace::Done;
 ghost use mathlib.Core.Path.{_≡_};
-ghost use Prim.Native.Nat.{_≤_};
+ghost use Prim.Native.Nat.{_+_, _≤_};
 ghost use lib.ListN.{length};
 ghost use Rattle.lines.specs.Input.{longest};
+ghost use Rattle.script.specs.Lists.{mostNumbers};
 
 // Writes what is wrong with a line.
 pub(crate) fn print_trouble(number: u64, trouble: Trouble, text: &[u8]) {
@@ -53,6 +58,27 @@ fn play_call(call: Call, b: &mut [u8]) {
     let mut out = [0u8; ANSWER];
     let end = answer(call, b, &mut out);
     files::print(&out[..end]);
+}
+
+// Makes a list of puts on the lent bytes: its steps stand at the front of the numbers, and its readings behind them.
+fn play_puts(start: u64, steps: usize, readings: usize, numbers: &[u64; NUMBERS], b: &mut [u8])
+    requires { ⌜ steps + readings ≤ mostNumbers ⌝ }
+{
+    let all: &[u64] = numbers;
+    let end = steps + readings;
+    let mut out = [0u8; ANSWER];
+    let size = answer_list(start, &all[..steps], &all[steps..end], b, &mut out);
+    files::print(&out[..size]);
+}
+
+// Makes the list of puts that a line asks for. No line has more numbers than there is room for.
+fn play_list(line: &[u8], number: u64, b: &mut [u8]) {
+    let mut numbers = [0u64; NUMBERS];
+    let Lists::Taken(start, steps, readings) = take_lists(line, &mut numbers) else {
+        print_trouble(number, Trouble::Unreadable, b"more than 100000 numbers");
+        return;
+    };
+    play_puts(start, steps, readings, &numbers, b);
 }
 
 // Lends the bytes that a line asks for.
@@ -108,6 +134,7 @@ fn play_lent(command: Command, line: &[u8], name: &[u8], number: u64, b: &mut [u
     match command {
         Command::Save => save(name, number, b),
         Command::Call(call) => play_call(call, b),
+        Command::PutList => play_list(line, number, b),
         Command::Unreadable => print_unreadable(line, number),
         _ => (),
     }

@@ -11,7 +11,7 @@ use native.Mathlib.Numerals.{add-one, unary-clauses}
 use lib.ListN.{length, take, drop, getD, length-drop, drop-of-length-le}
 use lib.Seq.{drop-cons, take-nil, take-suc, take-all, take-take, drop-drop, length-take-le}
 use borrow.Author.Tests.{eq-eqb, ne-eqb}
-use Rattle.script.specs.Script.{isBlank, skipBlanks, keep, trimEnd, withoutReturn, bare, word, behind, argument, IsPart}
+use Rattle.script.specs.Script.{isBlank, skipBlanks, keep, trimEnd, withoutReturn, bare, upTo, word, behind, argument, IsPart}
 
 -- ---- from the front
 
@@ -27,18 +27,19 @@ pub skip-beyond : (b : List ℕ) (i : ℕ) → length b ≤ i → skipBlanks (dr
 unfolding skipBlanks
 skip-beyond b i h = simp (drop-of-length-le b h)
 
-pub word-next : (b : List ℕ) (i : ℕ) → i < length b → isBlank (getD b i 0) ≡ false
-    → length (word (drop i b)) ≡ suc (length (word (drop (i + 1) b)))
-unfolding word
-word-next b i h e = simp (drop-cons b i 0 h, e, add-one)
+-- a piece, by what ends it
+module _ (ends : ℕ → Bool) (b : List ℕ) (i : ℕ) where
+  pub piece-next : i < length b → ends (getD b i 0) ≡ false → length (upTo ends (drop i b)) ≡ suc (length (upTo ends (drop (i + 1) b)))
+  unfolding upTo
+  piece-next h e = simp (drop-cons b i 0 h, e, add-one)
 
-pub word-here : (b : List ℕ) (i : ℕ) → i < length b → isBlank (getD b i 0) ≡ true → length (word (drop i b)) ≡ 0
-unfolding word
-word-here b i h e = simp (drop-cons b i 0 h, e)
+  pub piece-here : i < length b → ends (getD b i 0) ≡ true → length (upTo ends (drop i b)) ≡ 0
+  unfolding upTo
+  piece-here h e = simp (drop-cons b i 0 h, e)
 
-pub word-beyond : (b : List ℕ) (i : ℕ) → length b ≤ i → length (word (drop i b)) ≡ 0
-unfolding word
-word-beyond b i h = simp (drop-of-length-le b h)
+  pub piece-beyond : length b ≤ i → length (upTo ends (drop i b)) ≡ 0
+  unfolding upTo
+  piece-beyond h = simp (drop-of-length-le b h)
 
 -- no blank stands in front
 abbrev pub Starts : List ℕ → Type 0

@@ -15,7 +15,7 @@ use Rattle.trace.specs.Calls.{outcome, read}
 use Rattle.trace.specs.Layout.{bytesOf, numberFrom, part, overwrite, trailer, placeFrom, storeAt, made}
 use Rattle.trace.specs.Load.{drawn, handedBack}
 use Rattle.trace.specs.Refusals.{isFit, isBad}
-use Rattle.trace.specs.Rules.{gives}
+use Rattle.trace.specs.Rules.{gives, putAll}
 use Rattle.trace.specs.Trace.{contentWith, viewIn, refusalsIn, stored, onBytes, make}
 use Rattle.trace.proofs.Claims.{reads-alone}
 use Rattle.lines.specs.Text.{digits, decimal, hex, each, noted}
@@ -23,7 +23,7 @@ use Rattle.lines.specs.Answers.{answerLine, bytesLine}
 use Rattle.lines.specs.Claims.{exampleFile}
 use Rattle.lines.proofs.Examples.{answer-lines}
 use Rattle.script.specs.declared.line.Call.{Call}
-use Rattle.script.specs.Answering.{Answered, answered}
+use Rattle.script.specs.Answering.{Answered, answered, answeredList}
 use Rattle.script.specs.Claims.{CallsAnswer}
 
 -- the codeword of 74·4096 + 2385 under code 2: it is a codeword, and that is its message
@@ -48,7 +48,7 @@ reads slot line e = ap₂ with-line e (leaves (unless (refusalsIn (read slot) ex
 pub calls-answer : CallsAnswer
 unfolding
     answered make made trailer bytesOf onBytes viewIn contentWith part numberFrom placeFrom isFit isBad stored storeAt overwrite
-    drawn handedBack noted each decimal digits bytesLine hex
+    drawn handedBack answeredList putAll noted each decimal digits bytesLine hex
 calls-answer =
     record {
       make = refl;
@@ -64,5 +64,10 @@ calls-answer =
       read = reads 0 _ (ap answerLine (reads-alone exampleFile 0) ∙ answer-lines .read);
       blank = reads 1 _ (ap answerLine (reads-alone exampleFile 1) ∙ answer-lines .blank);
       survey = ap₂ with-line (answer-lines .survey) refl;
+      puts = rw word-put;
+      noPuts = refl;
+      pastEnd = refl;
+      uneven = refl;
+      stepTooLarge = refl;
       bytes = refl;
     }

@@ -60,7 +60,7 @@ lends-pairs line l e are = rw (e, are)
 
 -- a `match` knows the commands that lend nothing by their tags: all but 1 and 2
 abbrev others : List ℕ
-others = 0 ∷ 3 ∷ 4 ∷ 5 ∷ 6 ∷ []
+others = 0 ∷ 3 ∷ 4 ∷ 5 ∷ 6 ∷ 7 ∷ []
 
 other-lends : (command : Command) (l : List ℕ) → OneOf others (tagOf the-type command) → none ≡ lends command l
 other-lends (Command.Buffer n) l k = absurd (miss others 1 tt k)
@@ -68,6 +68,7 @@ other-lends Command.Hex l k = absurd (miss others 2 tt k)
 other-lends Command.Nothing l k = refl
 other-lends Command.Open l k = refl
 other-lends Command.Save l k = refl
+other-lends Command.PutList l k = refl
 other-lends (Command.Call call) l k = refl
 other-lends Command.Unreadable l k = refl
 

@@ -12,9 +12,9 @@ use lib.Dec.{ltb}
 use lib.ListN.{length, drop, getD, length-drop, drop-of-length-le}
 use lib.Seq.{drop-cons, getD-drop, drop-drop}
 use borrow.Author.Tests.{le-leb, lt-leb, ltb-true}
-use Rattle.script.specs.declared.hex.Pairs.{Pairs}
-use Rattle.script.specs.Script.{isBlank, skipBlanks, hexValue, isPair, hexByte, byteOn, hexBytes}
-use Rattle.script.specs.ContractsOfSteps.{isPairFront, isPairAt, pairsOn, listOf, IsList}
+use Rattle.script.specs.declared.numbers.Counted.{Counted}
+use Rattle.script.specs.Script.{isBlank, skipBlanks, hexValue, isPair, hexByte, inFront, hexBytes}
+use Rattle.script.specs.ContractsOfSteps.{isPairFront, isPairAt, countedOn, listOf, IsList}
 use Rattle.script.proofs.Blanks.{Starts}
 
 -- ---- digits
@@ -94,7 +94,7 @@ front-none (c ∷ []) h s e = simp s
 front-none (c ∷ (d ∷ cs)) h s e = simp (s, e)
 
 front-pair : (l : List ℕ) → Starts l → isPairFront l ≡ true
-    → (1 < length l) × (hexBytes l ≡ byteOn (hexByte (getD l 0 0) (getD l 1 0)) (hexBytes (drop 2 l)))
+    → (1 < length l) × (hexBytes l ≡ inFront (hexByte (getD l 0 0) (getD l 1 0)) (hexBytes (drop 2 l)))
 unfolding hexBytes
 front-pair [] s e = let z : _≡_ {A = ℕ} 0 1 = cc in absurd (omega arith)
 front-pair (c ∷ []) s e = let z : _≡_ {A = ℕ} 0 1 = cc in absurd (omega arith)
@@ -102,7 +102,7 @@ front-pair (c ∷ (d ∷ cs)) s e = (omega arith, simp (s, e))
 
 -- at a place two bytes are left, and they are the first of the bytes from there on
 abbrev pub Paired : List ℕ → ℕ → Type 0
-Paired b at = (at + 1 < length b) × (hexBytes (drop at b) ≡ byteOn (hexByte (getD b at 0) (getD b (at + 1) 0)) (hexBytes (drop (at + 2) b)))
+Paired b at = (at + 1 < length b) × (hexBytes (drop at b) ≡ inFront (hexByte (getD b at 0) (getD b (at + 1) 0)) (hexBytes (drop (at + 2) b)))
 
 -- a place of a text
 module _ (b : List ℕ) (at : ℕ) where
@@ -128,7 +128,7 @@ module _ (b : List ℕ) (at : ℕ) where
 
 -- ---- texts that have bytes
 
-byte-some : (x : ℕ) (o : Option (List ℕ)) (xs : List ℕ) (i : ℕ) → byteOn x o ≡ some (drop i xs)
+pub byte-some : (x : ℕ) (o : Option (List ℕ)) (xs : List ℕ) (i : ℕ) → inFront x o ≡ some (drop i xs)
     → (i < length xs) × (x ≡ getD xs i 0) × (o ≡ some (drop (i + 1) xs))
 byte-some x none xs i e = let z : _≡_ {A = ℕ} 0 1 = cc in absurd (omega arith)
 byte-some x (some ys) xs i e =
@@ -177,14 +177,14 @@ bytes-end b at xs i h room e =
 
 -- ---- how many bytes
 
-pub count-next : (n x : ℕ) (o : Option (List ℕ)) → pairsOn n (byteOn x o) ≡ pairsOn (n + 1) o
+pub count-next : (n x : ℕ) (o : Option (List ℕ)) → countedOn n (inFront x o) ≡ countedOn (n + 1) o
 count-next n x none = refl
-count-next n x (some xs) = ap Pairs.Bytes (omega arith)
+count-next n x (some xs) = ap Counted.Are (omega arith)
 
-pub count-none : (o : Option (List ℕ)) → Pairs.Unreadable ≡ pairsOn 0 o → none ≡ o
+pub count-none : (o : Option (List ℕ)) → Counted.Unreadable ≡ countedOn 0 o → none ≡ o
 count-none none e = refl
 count-none (some xs) e = let z : _≡_ {A = ℕ} 0 1 = cc in absurd (omega arith)
 
-pub count-some : (o : Option (List ℕ)) (n : ℕ) → Pairs.Bytes n ≡ pairsOn 0 o → IsList o × (n ≡ length (listOf o))
+pub count-some : (o : Option (List ℕ)) (n : ℕ) → Counted.Are n ≡ countedOn 0 o → IsList o × (n ≡ length (listOf o))
 count-some none n e = let z : _≡_ {A = ℕ} 0 1 = cc in absurd (omega arith)
 count-some (some xs) n e = (refl, (cc (zero-add (length xs))))

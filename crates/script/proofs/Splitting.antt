@@ -1,6 +1,6 @@
--- A text's words, one after the other: blanks in front make no word; where none is in front, the first word ends where the first blank
--- stands, and the others are the words of what is left. So a walk that skips blanks, reads the word up to the next one, and goes on there,
--- reads every word.
+-- A text's pieces: the first ends where the first byte stands that ends one, and the others are the pieces behind it. Its words, one after
+-- the other: blanks in front make no word; where none is in front, the first word is the first piece, and the others are the words of what
+-- is left. So a walk that skips blanks, reads the word up to the next one, and goes on there, reads every word.
 use mathlib.Core.Path.{_≡_, refl, ap, _∙_}
 use mathlib.Core.Bool.{Bool, true, false, cond}
 use mathlib.Core.List.{List, [], _∷_}
@@ -12,41 +12,54 @@ use borrow.Author.Tests.{eq-eqb, ne-eqb}
 use Rattle.script.specs.declared.numbers.Number.{Number}
 use Rattle.script.specs.declared.numbers.Numbers.{Numbers}
 use Rattle.script.specs.declared.line.Command.{Command}
-use Rattle.script.specs.Script.{isBlank, skipBlanks, word, onto, pieces, filled, words, behind}
+use Rattle.script.specs.Script.{isBlank, skipBlanks, upTo, word, onto, pieces, filled, words, behind}
 use Rattle.script.specs.Script.{numberOf, andOn, numbersOn, commands, chosen, spoken}
 use Rattle.script.proofs.Blanks.{Starts, behind-at}
 
--- the pieces of what stands behind a piece: none at the end, else those after the blank
-abbrev rest : List ℕ → List (List ℕ)
-rest [] = []
-rest (blank ∷ cs) = pieces cs
+-- the pieces of what stands behind a piece: none at the end, else those after the byte that ends it
+abbrev pub rest : (ℕ → Bool) → List ℕ → List (List ℕ)
+rest ends [] = []
+rest ends (c ∷ cs) = pieces ends cs
 
-pieces-first : (l : List ℕ) → pieces l ≡ word l ∷ rest (drop (length (word l)) l)
-unfolding pieces word
-pieces-first [] = refl
-pieces-first (c ∷ cs) = go (isBlank c) (pieces-first cs)
+pub pieces-first : (ends : ℕ → Bool) (l : List ℕ) → pieces ends l ≡ upTo ends l ∷ rest ends (drop (length (upTo ends l)) l)
+unfolding pieces upTo
+pieces-first ends [] = refl
+pieces-first ends (c ∷ cs) = go (ends c) (pieces-first ends cs)
   where
-    go : (blank : Bool) → pieces cs ≡ word cs ∷ rest (drop (length (word cs)) cs)
-        → cond blank ([] ∷ pieces cs) (onto c (pieces cs))
-        ≡ cond blank [] (c ∷ word cs) ∷ rest (drop (length (cond blank [] (c ∷ word cs))) (c ∷ cs))
+    go : (t : Bool) → pieces ends cs ≡ upTo ends cs ∷ rest ends (drop (length (upTo ends cs)) cs)
+        → cond t ([] ∷ pieces ends cs) (onto c (pieces ends cs))
+        ≡ cond t [] (c ∷ upTo ends cs) ∷ rest ends (drop (length (cond t [] (c ∷ upTo ends cs))) (c ∷ cs))
     go true e = refl
     go false e = rw e
 
-words-rest : (l : List ℕ) → filled (rest (drop (length (word l)) l)) ≡ words (drop (length (word l)) l)
-unfolding pieces word words
+pub take-piece : (ends : ℕ → Bool) (l : List ℕ) → take (length (upTo ends l)) l ≡ upTo ends l
+unfolding upTo
+take-piece ends [] = refl
+take-piece ends (c ∷ cs) = go (ends c) (take-piece ends cs)
+  where
+    go : (t : Bool) → take (length (upTo ends cs)) cs ≡ upTo ends cs
+        → take (length (cond t [] (c ∷ upTo ends cs))) (c ∷ cs) ≡ cond t [] (c ∷ upTo ends cs)
+    go true e = refl
+    go false e = rw e
+
+-- ---- words
+
+words-rest : (l : List ℕ) → filled (rest isBlank (drop (length (word l)) l)) ≡ words (drop (length (word l)) l)
+unfolding pieces upTo words
 words-rest [] = refl
 words-rest (c ∷ cs) = go (isBlank c) refl (words-rest cs)
   where
-    go : (blank : Bool) → isBlank c ≡ blank → filled (rest (drop (length (word cs)) cs)) ≡ filled (pieces (drop (length (word cs)) cs))
-        → filled (rest (drop (length (cond blank [] (c ∷ word cs))) (c ∷ cs)))
-        ≡ filled (pieces (drop (length (cond blank [] (c ∷ word cs))) (c ∷ cs)))
+    go : (blank : Bool) → isBlank c ≡ blank
+        → filled (rest isBlank (drop (length (word cs)) cs)) ≡ filled (pieces isBlank (drop (length (word cs)) cs))
+        → filled (rest isBlank (drop (length (cond blank [] (c ∷ word cs))) (c ∷ cs)))
+        ≡ filled (pieces isBlank (drop (length (cond blank [] (c ∷ word cs))) (c ∷ cs)))
     go true e more = rw e
     go false e more = more
 
-words-first : (l : List ℕ) → 0 < length l → Starts l → words l ≡ word l ∷ words (drop (length (word l)) l)
-unfolding pieces word words
+pub words-first : (l : List ℕ) → 0 < length l → Starts l → words l ≡ word l ∷ words (drop (length (word l)) l)
+unfolding pieces upTo words
 words-first [] h e = absurd (omega arith)
-words-first (c ∷ cs) h e = rw e (rw (pieces-first cs) (ap (λ (ws : List (List ℕ)). (c ∷ word cs) ∷ ws) (words-rest cs)))
+words-first (c ∷ cs) h e = rw e (rw (pieces-first isBlank cs) (ap (λ (ws : List (List ℕ)). (c ∷ word cs) ∷ ws) (words-rest cs)))
 
 pub words-skip : (l : List ℕ) → words (skipBlanks l) ≡ words l
 unfolding skipBlanks pieces words
@@ -57,20 +70,10 @@ words-skip (c ∷ cs) = go (isBlank c) refl (words-skip cs)
     go true e more = rw e more
     go false e more = refl
 
-take-word : (l : List ℕ) → take (length (word l)) l ≡ word l
-unfolding word
-take-word [] = refl
-take-word (c ∷ cs) = go (isBlank c) (take-word cs)
-  where
-    go : (blank : Bool) → take (length (word cs)) cs ≡ word cs
-        → take (length (cond blank [] (c ∷ word cs))) (c ∷ cs) ≡ cond blank [] (c ∷ word cs)
-    go true e = refl
-    go false e = rw e
-
 -- ---- the numbers that are left
 
-word-some : (l : List ℕ) → 0 < length l → Starts l → 0 < length (word l)
-unfolding word
+pub word-some : (l : List ℕ) → 0 < length l → Starts l → 0 < length (word l)
+unfolding upTo
 word-some [] h e = absurd (omega arith)
 word-some (c ∷ cs) h e = rw e (omega arith)
 
@@ -88,7 +91,7 @@ module _ (b : List ℕ) (at end : ℕ) (inside : at < length b) (front : Starts 
   numbers-step all =
       let l = drop at b in
       let size : end - at ≡ length (word l) = omega arith in
-      rw (words-first l some front, size, take-word l, drop-drop, ← ends)
+      rw (words-first l some front, size, take-piece isBlank l, drop-drop, ← ends)
 
 pub numbers-unreadable : (ws : List (List ℕ)) → numbersOn Numbers.Unreadable ws ≡ Numbers.Unreadable
 unfolding numbersOn
@@ -128,6 +131,6 @@ pub spoken-command : (l : List ℕ) (end from : ℕ) → (length l ≡ 0 → ⊥
     → drop from l ≡ skipBlanks (drop end l) → chosen (take end l) (commands (take (length l - from) (drop from l))) ≡ spoken l
 spoken-command l end from some other ends skip =
     let size : end ≡ length (word l) = omega arith in
-    let name : take end l ≡ word l = rw size (take-word l) in
+    let name : take end l ≡ word l = rw size (take-piece isBlank l) in
     let text = take-all (length l - from) (drop from l) (rw length-drop (omega arith)) ∙ behind-at l end from ends skip in
     rw (name, text) (spoken-other l some other)

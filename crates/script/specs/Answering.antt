@@ -1,7 +1,7 @@
 -- What a call of a script makes of the lent bytes, and the line that it is answered with: by what the trace call answers and leaves.
 use mathlib.Core.List.{List}
 use Prim.Native.Nat.{ℕ}
-use Rattle.trace.specs.Calls.{After, put, flip, mark, load, clear, read}
+use Rattle.trace.specs.Calls.{After, put, putList, flip, mark, load, clear, read}
 use Rattle.trace.specs.Trace.{onBytes, make, surveyIn}
 use Rattle.lines.specs.Answers.{answerLine, surveyLine, bytesLine}
 use Rattle.script.specs.declared.line.Call.{Call}
@@ -26,3 +26,7 @@ answered (Call.Clear slot) b = called (onBytes (clear slot) b)
 answered (Call.Read slot) b = called (onBytes (read slot) b)
 answered Call.Survey b = record { line = surveyLine (surveyIn b); bytes = b }
 answered Call.Bytes b = record { line = bytesLine b; bytes = b }
+
+-- a list of puts
+unfoldable pub answeredList : ℕ → List ℕ → List ℕ → List ℕ → Answered
+answeredList start steps readings b = called (onBytes (putList start steps readings) b)

@@ -11,10 +11,12 @@ use Rattle.lines.specs.Claims.{exampleFile}
 use Rattle.script.specs.declared.line.Call.{Call}
 use Rattle.script.specs.declared.line.Command.{Command}
 use Rattle.script.specs.declared.lending.Lent.{Lent}
+use Rattle.script.specs.declared.lists.Lists.{Lists}
 use Rattle.script.specs.Held.{isWhole, Holding, holding, holdAll}
-use Rattle.script.specs.Script.{text, hexValue, meaning, argument}
-use Rattle.script.specs.Lending.{zeros, lineLends, lending, lendIn}
-use Rattle.script.specs.Answering.{Answered, answered}
+use Rattle.script.specs.Script.{text, PutList, hexValue, meaning, argument}
+use Rattle.script.specs.Lending.{zeros, lineLends, lending, over, lendIn}
+use Rattle.script.specs.Lists.{linePuts, bothLists, taking, taken, takeIn}
+use Rattle.script.specs.Answering.{Answered, answered, answeredList}
 
 -- ---- lines
 
@@ -50,6 +52,19 @@ pub record LinesMean : Type 0 where
   pub noCount : meaning (text "load 0 1") ≡ Command.Unreadable
   pub largestSeed : meaning (text "load 4294967296 4294967295 4294967296") ≡ Command.Call (Call.Load 4294967296 4294967295 4294967296)
   pub tooLargeSeed : meaning (text "load 0 4294967296 3") ≡ Command.Unreadable
+  pub puts : meaning (text "puts 1 7,8 100,200") ≡ Command.PutList
+  pub noPuts : meaning (text "puts 0 - -") ≡ Command.PutList
+  pub uneven : meaning (text " puts\t2  - 1 \r") ≡ Command.PutList
+  pub emptyNumber : meaning (text "puts 0 1,,2 1,2,3") ≡ Command.Unreadable
+  pub commaInFront : meaning (text "puts 0 ,1 1") ≡ Command.Unreadable
+  pub commaAtEnd : meaning (text "puts 0 1 1,") ≡ Command.Unreadable
+  pub twoDashes : meaning (text "puts 0 -- -") ≡ Command.Unreadable
+  pub dashInList : meaning (text "puts 0 1,- 1") ≡ Command.Unreadable
+  pub noComma : meaning (text "puts 0 1;2 1,2") ≡ Command.Unreadable
+  pub noStart : meaning (text "puts - 1 1") ≡ Command.Unreadable
+  pub fewerLists : meaning (text "puts 0 1") ≡ Command.Unreadable
+  pub moreLists : meaning (text "puts 0 1 1 1") ≡ Command.Unreadable
+  pub tooLargeInList : meaning (text "puts 0 1,18446744073709551616 1,2") ≡ Command.Unreadable
 
 -- what they lend, which file they name, and what lent bytes make of a buffer
 pub record LinesLend : Type 0 where
@@ -63,6 +78,30 @@ pub record LinesLend : Type 0 where
   pub fits : lendIn (some (1 ∷ 2 ∷ 3 ∷ [])) (7 ∷ 8 ∷ 9 ∷ []) ≡ lending (Lent.Bytes 3) (1 ∷ 2 ∷ 3 ∷ [])
   pub tooMany : lendIn (some (1 ∷ 2 ∷ 3 ∷ 4 ∷ [])) (7 ∷ 8 ∷ 9 ∷ []) ≡ lending Lent.TooMany (7 ∷ 8 ∷ 9 ∷ [])
   pub nothing : lendIn none (7 ∷ 8 ∷ 9 ∷ []) ≡ lending Lent.Nothing (7 ∷ 8 ∷ 9 ∷ [])
+
+-- ---- lines that ask for a list of puts
+
+abbrev pub putsFrom : ℕ → List ℕ → List ℕ → PutList
+putsFrom start steps readings = record { start = start; steps = steps; readings = readings }
+
+-- which list of puts they ask for, and what lists make of a buffer of numbers
+pub record LinesPut : Type 0 where
+  pub puts : linePuts (text "puts 1 7,8 100,200") ≡ some (putsFrom 1 (7 ∷ 8 ∷ []) (100 ∷ 200 ∷ []))
+  pub empty : linePuts (text "puts 0 - -") ≡ some (putsFrom 0 [] [])
+  pub uneven : linePuts (text " puts\t2  - 1 \r") ≡ some (putsFrom 2 [] (1 ∷ []))
+  pub largest : linePuts (text "puts 18446744073709551615 007,18446744073709551615 0")
+      ≡ some (putsFrom 18446744073709551615 (7 ∷ 18446744073709551615 ∷ []) (0 ∷ []))
+  pub put : linePuts (text "put 1 7 100") ≡ none
+  pub front : takeIn (some (putsFrom 3 (4 ∷ []) (5 ∷ 6 ∷ []))) (7 ∷ 8 ∷ 9 ∷ 10 ∷ []) ≡ taking (Lists.Taken 3 1 2) (4 ∷ 5 ∷ 6 ∷ 10 ∷ [])
+  pub fits : takeIn (some (putsFrom 3 (4 ∷ []) (5 ∷ 6 ∷ []))) (7 ∷ 8 ∷ 9 ∷ []) ≡ taking (Lists.Taken 3 1 2) (4 ∷ 5 ∷ 6 ∷ [])
+  pub tooMany : takeIn (some (putsFrom 3 (4 ∷ []) (5 ∷ 6 ∷ []))) (7 ∷ 8 ∷ []) ≡ taking Lists.TooMany (7 ∷ 8 ∷ [])
+  pub nothing : takeIn none (7 ∷ 8 ∷ []) ≡ taking Lists.Nothing (7 ∷ 8 ∷ [])
+
+-- a buffer of 100,000 numbers has room for every list of puts of a line of at most 200,000 bytes
+abbrev pub ListsFit : Type 0
+ListsFit =
+    (line numbers : List ℕ) (puts : PutList) → length line ≤ 200000 → length numbers ≡ 100000 → linePuts line ≡ some puts
+    → takeIn (linePuts line) numbers ≡ taking (taken puts) (over (bothLists puts) numbers)
 
 -- ---- lines that are taken byte by byte
 
@@ -108,4 +147,10 @@ pub record CallsAnswer : Type 0 where
   pub read : answered (Call.Read 0) exampleFile ≡ says "ok 74 2385 2 0\n" exampleFile
   pub blank : answered (Call.Read 1) exampleFile ≡ says "refused 11\n" exampleFile
   pub survey : answered Call.Survey exampleFile ≡ says "ok 1 1 1 0 1 0 2385 2385 2385 2385\n" exampleFile
+  pub puts : answeredList 0 (74 ∷ []) (2385 ∷ []) (exampleBytes blankSlot)
+      ≡ says "ok\n" (exampleBytes (1 ∷ 0x02 ∷ 0xE4 ∷ 0x87 ∷ 0x22 ∷ 0xDB ∷ replicate 5 0))
+  pub noPuts : answeredList 0 [] [] (exampleBytes (slotWith 5 8)) ≡ says "ok\n" (exampleBytes (slotWith 5 8))
+  pub pastEnd : answeredList 0 (1 ∷ 2 ∷ []) (3 ∷ []) (exampleBytes (slotWith 5 8)) ≡ says "refused 15\n" (exampleBytes (slotWith 5 8))
+  pub uneven : answeredList 0 [] (3 ∷ []) (exampleBytes (slotWith 5 8)) ≡ says "refused 16\n" (exampleBytes (slotWith 5 8))
+  pub stepTooLarge : answeredList 0 (2385 ∷ []) (74 ∷ []) (exampleBytes (slotWith 5 8)) ≡ says "refused 13\n" (exampleBytes (slotWith 5 8))
   pub bytes : answered Call.Bytes (0x00 ∷ 0x2C ∷ 0xE4 ∷ 0xFF ∷ []) ≡ says "002CE4FF\n" (0x00 ∷ 0x2C ∷ 0xE4 ∷ 0xFF ∷ [])

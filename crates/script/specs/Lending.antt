@@ -20,6 +20,7 @@ lends Command.Hex text = hexBytes text
 lends Command.Nothing text = none
 lends Command.Open text = none
 lends Command.Save text = none
+lends Command.PutList text = none
 lends (Command.Call call) text = none
 lends Command.Unreadable text = none
 

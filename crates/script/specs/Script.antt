@@ -1,6 +1,6 @@
 -- What a line of a script means. A carriage return at its end and blanks around and between words are nothing. An empty line and a comment
--- ask for nothing; of any other line the first word is a command's name, and the rest is its argument: numbers, bytes in hexadecimal, or a
--- file's name.
+-- ask for nothing; of any other line the first word is a command's name, and the rest is its argument: numbers, lists of them, bytes in
+-- hexadecimal, or a file's name.
 use mathlib.Core.Path.{_≡_}
 use mathlib.Core.Bool.{Bool, true, false, cond, _&&_, _||_}
 use mathlib.Core.List.{List, [], _∷_}
@@ -50,10 +50,14 @@ bare line = skipBlanks (trimEnd (withoutReturn line))
 
 -- ---- words
 
+-- what stands before the first byte that ends a piece
+unfoldable pub upTo : (ℕ → Bool) → List ℕ → List ℕ
+upTo ends [] = []
+upTo ends (c ∷ cs) = cond (ends c) [] (c ∷ upTo ends cs)
+
 -- what stands before the first blank
-unfoldable pub word : List ℕ → List ℕ
-word [] = []
-word (c ∷ cs) = cond (isBlank c) [] (c ∷ word cs)
+abbrev pub word : List ℕ → List ℕ
+word = upTo isBlank
 
 -- what stands behind the first word and the blanks after it
 unfoldable pub behind : List ℕ → List ℕ
@@ -64,10 +68,10 @@ abbrev pub onto : ℕ → List (List ℕ) → List (List ℕ)
 onto c [] = []
 onto c (p ∷ ps) = (c ∷ p) ∷ ps
 
--- what stands between blanks
-unfoldable pub pieces : List ℕ → List (List ℕ)
-pieces [] = [] ∷ []
-pieces (c ∷ cs) = cond (isBlank c) ([] ∷ pieces cs) (onto c (pieces cs))
+-- what stands between the bytes that end pieces
+unfoldable pub pieces : (ℕ → Bool) → List ℕ → List (List ℕ)
+pieces ends [] = [] ∷ []
+pieces ends (c ∷ cs) = cond (ends c) ([] ∷ pieces ends cs) (onto c (pieces ends cs))
 
 -- the pieces that are not empty
 abbrev pub filled : List (List ℕ) → List (List ℕ)
@@ -77,7 +81,19 @@ filled ((c ∷ p) ∷ ps) = (c ∷ p) ∷ filled ps
 
 -- the words of a text
 unfoldable pub words : List ℕ → List (List ℕ)
-words l = filled (pieces l)
+words l = filled (pieces isBlank l)
+
+-- two texts are the same
+unfoldable pub is : List ℕ → List ℕ → Bool
+is [] [] = true
+is [] (d ∷ ds) = false
+is (c ∷ cs) [] = false
+is (c ∷ cs) (d ∷ ds) = eqb c d && is cs ds
+
+-- an element in front of others, where these can be read
+abbrev pub inFront : ℕ → Option (List ℕ) → Option (List ℕ)
+inFront x none = none
+inFront x (some xs) = some (x ∷ xs)
 
 -- ---- numbers
 
@@ -110,6 +126,47 @@ unfoldable pub numbersOn : Numbers → List (List ℕ) → Numbers
 numbersOn all [] = all
 numbersOn all (w ∷ ws) = numbersOn (andOn all (numberOf w)) ws
 
+-- ---- lists of numbers
+
+-- a comma
+unfoldable pub isComma : ℕ → Bool
+isComma c = eqb c 44
+
+-- a number in front of others, where all can be read
+abbrev pub numberOn : Number → Option (List ℕ) → Option (List ℕ)
+numberOn Number.Nothing ns = none
+numberOn (Number.Is n) ns = inFront n ns
+
+-- the numbers that words are, where each is one
+unfoldable pub numbersOf : List (List ℕ) → Option (List ℕ)
+numbersOf [] = some []
+numbersOf (w ∷ ws) = numberOn (numberOf w) (numbersOf ws)
+
+-- the list that a word is: `-` is the empty one, and any other has its numbers between commas
+unfoldable pub numberList : List ℕ → Option (List ℕ)
+numberList w = cond (is w (text "-")) (some []) (numbersOf (pieces isComma w))
+
+-- a list of puts: the slot where it starts, the steps and the readings
+pub record PutList : Type 0 where
+  pub start : ℕ
+  pub steps : List ℕ
+  pub readings : List ℕ
+
+-- a list of puts, where all three can be read
+abbrev pub listed : Number → Option (List ℕ) → Option (List ℕ) → Option PutList
+listed Number.Nothing steps readings = none
+listed (Number.Is start) none readings = none
+listed (Number.Is start) (some steps) none = none
+listed (Number.Is start) (some steps) (some readings) = some (record { start = start; steps = steps; readings = readings })
+
+-- the list of puts that three words are
+abbrev pub putListOf : List (List ℕ) → Option PutList
+putListOf [] = none
+putListOf (start ∷ []) = none
+putListOf (start ∷ (steps ∷ [])) = none
+putListOf (start ∷ (steps ∷ (readings ∷ []))) = listed (numberOf start) (numberList steps) (numberList readings)
+putListOf (start ∷ (steps ∷ (readings ∷ (more ∷ ws)))) = none
+
 -- ---- bytes in hexadecimal
 
 -- the value of a digit in either case; 16 of any other byte
@@ -127,16 +184,11 @@ isPair c d = ltb (hexValue c) 16 && ltb (hexValue d) 16
 abbrev pub hexByte : ℕ → ℕ → ℕ
 hexByte c d = hexValue c * 16 + hexValue d
 
--- a byte before others, where these can be read
-abbrev pub byteOn : ℕ → Option (List ℕ) → Option (List ℕ)
-byteOn x none = none
-byteOn x (some xs) = some (x ∷ xs)
-
 -- the bytes that a text is: two digits are a byte, and blanks may stand between bytes; no bytes where it is anything else
 unfoldable pub hexBytes : List ℕ → Option (List ℕ)
 hexBytes [] = some []
 hexBytes (c ∷ []) = cond (isBlank c) (some []) none
-hexBytes (c ∷ (d ∷ cs)) = cond (isBlank c) (hexBytes (d ∷ cs)) (cond (isPair c d) (byteOn (hexByte c d) (hexBytes cs)) none)
+hexBytes (c ∷ (d ∷ cs)) = cond (isBlank c) (hexBytes (d ∷ cs)) (cond (isPair c d) (inFront (hexByte c d) (hexBytes cs)) none)
 
 -- ---- commands
 
@@ -150,6 +202,11 @@ hexCommand (some (x ∷ xs)) = Command.Hex
 abbrev pub fileCommand : Command → List ℕ → Command
 fileCommand command [] = Command.Unreadable
 fileCommand command (c ∷ cs) = command
+
+-- the command whose argument is a list of puts
+abbrev pub listCommand : Option PutList → Command
+listCommand none = Command.Unreadable
+listCommand (some puts) = Command.PutList
 
 -- a load, whose seed 32 bits hold
 abbrev pub loadCommand : ℕ → ℕ → ℕ → Command
@@ -181,14 +238,8 @@ commands argument =
     row "hex" (hexCommand (hexBytes argument))
     ∷ row "open" (fileCommand Command.Open argument)
     ∷ row "save" (fileCommand Command.Save argument)
+    ∷ row "puts" (listCommand (putListOf (words argument)))
     ∷ numbered (numbersOn Numbers.None (words argument))
-
--- two texts are the same
-unfoldable pub is : List ℕ → List ℕ → Bool
-is [] [] = true
-is [] (d ∷ ds) = false
-is (c ∷ cs) [] = false
-is (c ∷ cs) (d ∷ ds) = eqb c d && is cs ds
 
 -- the command of this name, the first in the table
 unfoldable pub chosen : List ℕ → List Row → Command

@@ -8,7 +8,7 @@ use lines::read_line;
 use lines::survey_line;
 ghost use mathlib.Core.Path.{_≡_};
 ghost use Rattle.lines.specs.Text.{Begins, Lendable};
-ghost use Rattle.script.specs.Answering.{answered};
+ghost use Rattle.script.specs.Answering.{answered, answeredList};
 
 // Makes a call on the lent bytes, writes its line at the start of `out` and answers the line's length; the bytes behind it stay.
 pub fn answer(call: Call, b: &mut [u8], out: &mut [u8; ANSWER]) -> usize
@@ -27,4 +27,19 @@ pub fn answer(call: Call, b: &mut [u8], out: &mut [u8; ANSWER]) -> usize
         Call::Survey => survey_line(trace::survey(b), out),
         Call::Bytes => bytes_line(b, out),
     }
+}
+
+// Makes a list of puts on the lent bytes, and writes and answers as `answer` does.
+pub fn answer_list(
+    start: u64,
+    steps: &[u64],
+    readings: &[u64],
+    b: &mut [u8],
+    out: &mut [u8; ANSWER],
+) -> usize
+    ensures { λ r. ⌜ (now (b .exit) ≡ answeredList start (now (steps .entry)) (now (readings .entry)) (now (b .entry)) .bytes)
+        × Begins (now (out .entry)) (answeredList start (now (steps .entry)) (now (readings .entry)) (now (b .entry)) .line) (now (out .exit)) r ⌝ }
+    ensures { λ r. ⌜ Lendable (now (out .exit)) r ⌝ }
+{
+    done_line(trace::put_list(b, start, steps, readings), out)
 }

@@ -1,17 +1,12 @@
 // Bytes in hexadecimal: pairs of digits, with any blanks between the pairs.
+use crate::numbers::Counted;
 use crate::parts::skip_blanks;
 ghost use mathlib.Core.Path.{_≡_};
 ghost use Prim.Native.Nat.{_<_, _≤_};
 ghost use lib.ListN.{length};
 ghost use Rattle.script.specs.Script.{hexValue, hexByte, hexBytes};
 ghost use Rattle.script.specs.Lending.{over};
-ghost use Rattle.script.specs.ContractsOfSteps.{isPairAt, pairsOn, listOf, IsList};
-
-// How many bytes a text is in hexadecimal, or that it is none.
-pub(crate) enum Pairs {
-    Bytes(usize),
-    Unreadable,
-}
+ghost use Rattle.script.specs.ContractsOfSteps.{isPairAt, countedOn, listOf, IsList};
 
 // What stands for the value of a byte that is no digit.
 const NO_DIGIT: u8 = 16;
@@ -51,19 +46,19 @@ fn is_pair(text: &[u8], at: usize) -> bool
 }
 
 // How many bytes a text is in hexadecimal.
-pub(crate) fn count_pairs(text: &[u8]) -> Pairs
-    ensures { λ r. ⌜ r ≡ pairsOn 0 (hexBytes (now (text .entry))) ⌝ }
+pub(crate) fn count_pairs(text: &[u8]) -> Counted
+    ensures { λ r. ⌜ r ≡ countedOn 0 (hexBytes (now (text .entry))) ⌝ }
 {
     let mut n = 0;
     let mut at = skip_blanks(text, 0);
     while at < text.len() {
         if !is_pair(text, at) {
-            return Pairs::Unreadable;
+            return Counted::Unreadable;
         }
         n += 1;
         at = skip_blanks(text, at + 2);
     }
-    Pairs::Bytes(n)
+    Counted::Are(n)
 }
 
 // Writes the bytes that a text is in hexadecimal over the front of a buffer that has room for them.

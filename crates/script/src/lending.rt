@@ -1,9 +1,9 @@
 // The lines that lend bytes.
-use crate::hex::Pairs;
 use crate::hex::count_pairs;
 use crate::hex::write_pairs;
 use crate::line::Command;
 use crate::line::parse_line;
+use crate::numbers::Counted;
 use crate::parts::argument;
 use lines::INPUT;
 ghost use mathlib.Core.Path.{_≡_};
@@ -73,7 +73,7 @@ fn lend_pairs(text: &[u8], buffer: &mut [u8]) -> Lent
     ensures { λ r. ⌜ (lending r (now (buffer .exit)) ≡ lendIn (hexBytes (now (text .entry))) (now (buffer .entry)))
         × Fits r (now (buffer .entry)) ⌝ }
 {
-    let Pairs::Bytes(n) = count_pairs(text) else {
+    let Counted::Are(n) = count_pairs(text) else {
         return Lent::Nothing;
     };
     if buffer.len() < n {

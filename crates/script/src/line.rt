@@ -1,14 +1,17 @@
 // A line as a command.
-use crate::hex::Pairs;
 use crate::hex::count_pairs;
+use crate::lists::Lists;
+use crate::lists::count_lists;
+use crate::numbers::Counted;
 use crate::numbers::Numbers;
 use crate::numbers::parse_numbers;
 use crate::parts::bare;
 use crate::parts::skip_blanks;
 use crate::parts::word_end;
-use check::same;
+use crate::words::says;
 ghost use mathlib.Core.Path.{_≡_};
-ghost use Rattle.script.specs.Script.{is, hexBytes, hexCommand, fileCommand, loadCommand, numbered, commands, chosen, spoken, meaning};
+ghost use Rattle.script.specs.Script.{words, putListOf, hexBytes, hexCommand, fileCommand, listCommand, loadCommand};
+ghost use Rattle.script.specs.Script.{numbered, commands, chosen, spoken, meaning};
 
 // A call on the lent bytes.
 pub enum Call {
@@ -40,15 +43,10 @@ pub enum Command {
     // The file that the argument names.
     Open,
     Save,
+    // The list of puts that the argument is.
+    PutList,
     Call(Call),
     Unreadable,
-}
-
-// Whether a name is this word.
-fn says(name: &[u8], word: &[u8]) -> bool
-    ensures { λ r. ⌜ r ≡ is (now (name .entry)) (now (word .entry)) ⌝ }
-{
-    same(name, word)
 }
 
 // The commands without numbers.
@@ -136,7 +134,7 @@ fn with_numbers(name: &[u8], all: Numbers) -> Command
 fn with_pairs(argument: &[u8]) -> Command
     ensures { λ r. ⌜ r ≡ hexCommand (hexBytes (now (argument .entry))) ⌝ }
 {
-    let Pairs::Bytes(n) = count_pairs(argument) else {
+    let Counted::Are(n) = count_pairs(argument) else {
         return Command::Unreadable;
     };
     if n == 0 {
@@ -155,6 +153,16 @@ fn with_file(argument: &[u8], command: Command) -> Command
     command
 }
 
+// The command whose argument is a list of puts.
+fn with_lists(argument: &[u8]) -> Command
+    ensures { λ r. ⌜ r ≡ listCommand (putListOf (words (now (argument .entry)))) ⌝ }
+{
+    let Lists::Taken(_, _, _) = count_lists(argument) else {
+        return Command::Unreadable;
+    };
+    Command::PutList
+}
+
 // The command of this name with this argument.
 fn named(name: &[u8], argument: &[u8]) -> Command
     ensures { λ r. ⌜ r ≡ chosen (now (name .entry)) (commands (now (argument .entry))) ⌝ }
@@ -167,6 +175,9 @@ fn named(name: &[u8], argument: &[u8]) -> Command
     }
     if says(name, b"save") {
         return with_file(argument, Command::Save);
+    }
+    if says(name, b"puts") {
+        return with_lists(argument);
     }
     with_numbers(name, parse_numbers(argument))
 }

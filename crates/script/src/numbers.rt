@@ -10,6 +10,12 @@ pub(crate) enum Number {
     Nothing,
 }
 
+// How many bytes or numbers a text is, or that it can't be read.
+pub(crate) enum Counted {
+    Are(usize),
+    Unreadable,
+}
+
 // Up to three numbers.
 pub(crate) enum Numbers {
     None,
@@ -37,7 +43,7 @@ fn with_digit(n: u64, byte: u8) -> Number
 }
 
 // The number whose decimal digits a word is: at least one digit, and nothing else.
-fn parse_number(word: &[u8]) -> Number
+pub(crate) fn parse_number(word: &[u8]) -> Number
     ensures { λ r. ⌜ r ≡ numberOf (now (word .entry)) ⌝ }
 {
     if word.len() == 0 {

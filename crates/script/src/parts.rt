@@ -2,7 +2,8 @@
 ghost use mathlib.Core.Path.{_≡_};
 ghost use Prim.Native.Nat.{_+_, _≤_};
 ghost use lib.ListN.{length, take, drop};
-ghost use Rattle.script.specs.Script.{isBlank, skipBlanks, trimEnd, withoutReturn, bare, word, argument, IsPart};
+ghost use Rattle.script.specs.Script.{isBlank, skipBlanks, trimEnd, withoutReturn, bare, upTo, word, argument, IsPart};
+ghost use Rattle.script.specs.ContractsOfSteps.{separates};
 
 // The bytes of a line from `from` on, up to `to`.
 pub struct Part {
@@ -18,6 +19,22 @@ fn is_blank(byte: u8) -> bool
         return true;
     }
     byte == b'\t'
+}
+
+// What stands between pieces of a text.
+pub(crate) enum Separator {
+    Blank,
+    Comma,
+}
+
+// Whether a byte ends a piece.
+fn separates(byte: u8, separator: Separator) -> bool
+    ensures { λ r. ⌜ r ≡ separates separator byte ⌝ }
+{
+    match separator {
+        Separator::Blank => is_blank(byte),
+        Separator::Comma => byte == b',',
+    }
 }
 
 // Where the first byte from `from` on stands that is no blank, or the length where there is none.
@@ -36,20 +53,29 @@ pub(crate) fn skip_blanks(b: &[u8], from: usize) -> usize
     i
 }
 
+// Where the piece ends that begins at `from`: at the first separator, or at the length where there is none.
+pub(crate) fn piece_end(b: &[u8], from: usize, separator: Separator) -> usize
+    requires { ⌜ from ≤ length (now b) ⌝ }
+    ensures { λ r. ⌜ (r ≡ from + length (upTo (separates separator) (drop from (now (b .entry)))))
+        × (from ≤ r) × (r ≤ length (now (b .entry))) ⌝ }
+{
+    let mut i = from;
+    while i < b.len() {
+        if separates(b[i], separator) {
+            return i;
+        }
+        i += 1;
+    }
+    i
+}
+
 // Where the first blank from `from` on stands, or the length where there is none.
 pub(crate) fn word_end(b: &[u8], from: usize) -> usize
     requires { ⌜ from ≤ length (now b) ⌝ }
     ensures { λ r. ⌜ (r ≡ from + length (word (drop from (now (b .entry)))))
         × (from ≤ r) × (r ≤ length (now (b .entry))) ⌝ }
 {
-    let mut i = from;
-    while i < b.len() {
-        if is_blank(b[i]) {
-            return i;
-        }
-        i += 1;
-    }
-    i
+    piece_end(b, from, Separator::Blank)
 }
 
 // Where a line ends, without a carriage return.

@@ -1,15 +1,15 @@
 -- What is particular to each call, in one table: the numbers of its refusals, in order, and on a plain trace; that it gives values where none of
 -- them is met; and, where a sound plain trace accepts it, that it leaves on the bytes the bytes of what it leaves of the plain trace, which is sound
 -- and has the same code. No other proof goes by the calls. A call that changes one slot stores there what the new slot holds; its rows say that the
--- slot is there and that its numbers fit. A plain slot is never bad, so 10 isn't met.
-use Prim.Native.Nat.{ℕ, _<_, _≤_}
+-- slot is there and that its numbers fit; a list of puts does so for each of its slots in turn. A plain slot is never bad, so 10 isn't met.
+use Prim.Native.Nat.{ℕ, suc, _+_, _<_, _≤_}
 use mathlib.Core.Path.{_≡_, refl, sym, _∙_}
-use mathlib.Core.Bool.{Bool, true, false, _||_, false≢true}
+use mathlib.Core.Bool.{true, false, false≢true}
 use mathlib.Core.List.{List, [], _∷_}
 use mathlib.Core.Option.{Option, none, some}
 use native.Mathlib.Omega.{arith}
 use lib.Dec.{leb}
-use lib.ListN.{length, getD}
+use lib.ListN.{length, getD, length-set}
 use borrow.Author.Tests.{leb-false, ltb-false}
 use Rattle.codes.specs.declared.answer.Correction.{Correction}
 use Rattle.codes.specs.Answer.{Answer, accepted, Row, unless, mapAnswer, Passes, Refuses}
@@ -20,27 +20,28 @@ use Rattle.codes.specs.Claims.{Among, numbers}
 use Rattle.codes.proofs.Rows.{accepted-row, passes-first, first-among}
 use Rattle.trace.specs.declared.slot.Content.{Content}
 use Rattle.trace.specs.Answers.{readingValues}
-use Rattle.trace.specs.Lists.{inTurn}
+use Rattle.trace.specs.Lists.{reaches, inTurn}
 use Rattle.trace.specs.Load.{positionsOf}
-use Rattle.trace.specs.Calls.{Call, put, flip, mark, load, clear, read, survey}
+use Rattle.trace.specs.Calls.{Call, put, putList, flip, mark, load, clear, read, survey}
 use Rattle.trace.specs.View.{View, countOf, contentOf, messageOf, readingOf, readCorrected, readContent, flipContent, markContent}
 use Rattle.trace.specs.Refusals.{noSlot, holdsBad, badSlot, holdsNothing, blankSlot, lostSlot, noPosition, tooLarge, tooMany}
-use Rattle.trace.specs.Rules.{contentRows, refusals, gives}
-use Rattle.trace.specs.Trace.{projectionIn, viewIn, stored, leaves}
-use Rattle.trace.specs.Plain.{Slot, Plain, projectionOf, slotOf, withSlot, holds, viewOf, bytes, flipped, marked, plainLeaves}
+use Rattle.trace.specs.Rules.{contentRows, refusals, gives, putAll}
+use Rattle.trace.specs.Trace.{projectionIn, viewIn, stored, putIn, leaves}
+use Rattle.trace.specs.Plain.{Slot, Plain, projectionOf, slotOf, withSlot, holds, viewOf, bytes, plainPut, flipped, marked, plainLeaves}
 use Rattle.trace.specs.Claims.{numbersOf}
 use Rattle.trace.proofs.Among.{has, among-within}
 use Rattle.trace.proofs.Views.{plain-code, plain-count, plain-content}
 use Rattle.trace.proofs.Stored.{Fits, Sound, projection-in, store-slot, seen-alike}
 use Rattle.trace.proofs.Words.{message-lt}
 use Rattle.trace.proofs.LoadLaws.{load-draws}
+use Rattle.trace.proofs.PutLists.{neither, first-below, rest-below, ListPassed, list-passed}
 use Rattle.trace.proofs.PlainSlots.{put-holds, flip-holds, flips-hold, mark-holds, put-fits, flip-fits, flips-fit, mark-fits, sound-with}
 
 -- ---- the table's columns
 
--- 'Refusals 9, 11, 12 and 13 follow from its slots and the call's numbers, 5 from mending', and so does 14
+-- 'Refusals 9, 11, 12 and 13 follow from its slots and the call's numbers, 5 from mending', and so do 14, 15 and 16
 abbrev pub plainNumbers : List ℕ
-plainNumbers = 5 ∷ 9 ∷ 11 ∷ 12 ∷ 13 ∷ 14 ∷ []
+plainNumbers = 5 ∷ 9 ∷ 11 ∷ 12 ∷ 13 ∷ 14 ∷ 15 ∷ 16 ∷ []
 
 -- bytes and a plain trace that a call left of a plain trace and its bytes
 pub record Left (p : Plain) (b : List ℕ) (q : Plain) : Type 0 where
@@ -59,6 +60,11 @@ pub record CallFacts (c : Call) : Type 0 where
   pub left : (p : Plain) → Sound p → (vs : List ℕ) → unless (refusals c (viewOf p)) (gives c (viewOf p)) ≡ accepted vs
       → Left p (leaves c (bytes p)) (plainLeaves c p)
 
+-- ---- calls that change nothing
+
+unchanged : (p : Plain) → Sound p → Left p (bytes p) p
+unchanged p s = record { same = refl; sound = s; code = refl }
+
 -- ---- calls that change a slot
 
 -- a call that is accepted names a slot that is there
@@ -73,22 +79,43 @@ changed : (p : Plain) → Sound p → (slot : ℕ) → slot < length (p .slots) 
     → b ≡ stored slot (holds (projectionOf p) x) (bytes p) → Left p b (withSlot slot x p)
 changed p s slot h x f b e = record { same = e ∙ store-slot p s slot h x; sound = sound-with p s slot h x f; code = refl }
 
--- ---- put
-
-neither : (s t : Bool) → s || t ≡ false → (s ≡ false) × (t ≡ false)
-neither true t e = let z : _≡_ {A = ℕ} 0 1 = cc in absurd (omega arith)
-neither false t e = (refl, e)
+-- ---- put, and a list of puts
 
 module _ (slot step reading : ℕ) where
+  fit-left : (p : Plain) → Sound p → slot < length (p .slots) → step < stepLimit (projectionOf p) → reading < 4096
+      → Left p (putIn slot step reading (bytes p)) (plainPut slot step reading p)
+  fit-left p s there hs hr =
+      let π = projectionOf p in
+      let fits = message-lt (codeOf (p .code)) step reading hs hr in
+      changed p s slot there (Slot.written (messageOf step reading) 0 0) (put-fits π _ fits) _ (rw (projection-in p s, put-holds π))
+
   put-left : (p : Plain) → Sound p → (vs : List ℕ) → unless (refusals (put slot step reading) (viewOf p)) (accepted []) ≡ accepted vs
       → Left p (leaves (put slot step reading) (bytes p)) (plainLeaves (put slot step reading) p)
   put-left p s vs e =
-      let π = projectionOf p in
       let inside = there p slot _ vs e in
       let small = rw plain-code at (accepted-row (tooLarge (viewOf p .code) step reading) _ vs (inside .1) .0) in
-      let both = neither (leb (stepLimit π) step) (leb 4096 reading) small in
-      let fits = message-lt (codeOf (p .code)) step reading (leb-false _ step (both .0)) (leb-false 4096 reading (both .1)) in
-      changed p s slot (inside .0) (Slot.written (messageOf step reading) 0 0) (put-fits π _ fits) _ (rw (projection-in p s, put-holds π))
+      let both = neither (leb (stepLimit (projectionOf p)) step) (leb 4096 reading) small in
+      fit-left p s (inside .0) (leb-false _ step (both .0)) (leb-false 4096 reading (both .1))
+
+-- each put of a list, in turn, leaves both levels alike
+fits-left : (start : ℕ) (steps readings : List ℕ) (p : Plain) → Sound p → start + length steps ≤ length (p .slots)
+    → reaches (stepLimit (projectionOf p)) steps ≡ false → reaches 4096 readings ≡ false
+    → Left p (putAll putIn start steps readings (bytes p)) (putAll plainPut start steps readings p)
+unfolding putAll
+fits-left start [] readings p s inside es er = unchanged p s
+fits-left start (step ∷ steps) [] p s inside es er = unchanged p s
+fits-left start (step ∷ steps) (reading ∷ readings) p s inside es er =
+    let first = fit-left start step reading p s (omega arith) (first-below _ step steps es) (first-below _ reading readings er) in
+    let rest = fits-left (suc start) steps readings (plainPut start step reading p) (first .sound) (rw length-set (omega arith))
+    (rest-below _ step steps es) (rest-below _ reading readings er) in
+    record { same = rw (first .same) (rest .same); sound = rest .sound; code = rest .code ∙ first .code }
+
+-- an accepted list has passed its rows
+pub plain-passed : (p : Plain) (start : ℕ) (steps readings : List ℕ) (vs : List ℕ)
+    → unless (refusals (putList start steps readings) (viewOf p)) (accepted []) ≡ accepted vs
+    → ListPassed (projectionOf p) (length (p .slots)) start steps readings × (vs ≡ [])
+plain-passed p start steps readings vs e =
+    list-passed (projectionOf p) (length (p .slots)) start steps readings vs (rw (plain-code p, plain-count p) at e)
 
 -- ---- flip, mark and load
 
@@ -172,9 +199,6 @@ read-plainly slot p n e =
 
 -- ---- the table
 
-unchanged : (p : Plain) → Sound p → Left p (bytes p) p
-unchanged p s = record { same = refl; sound = s; code = refl }
-
 -- a call that only changes
 done : (vs : List ℕ) × (accepted [] ≡ accepted vs)
 done = ([], refl)
@@ -186,6 +210,17 @@ facts (put slot step reading) =
       accepts = λ v t. done;
       plainly = λ p n e. among-within (9 ∷ 13 ∷ []) plainNumbers refl n (first-among (refusals (put slot step reading) (viewOf p)) n e);
       left = put-left slot step reading;
+    }
+facts (putList start steps readings) =
+    record {
+      ordered = λ v. refl;
+      accepts = λ v t. done;
+      plainly =
+          λ p n e. among-within (9 ∷ 15 ∷ 16 ∷ 13 ∷ []) plainNumbers refl n (first-among (refusals (putList start steps readings) (viewOf p)) n e);
+      left =
+          λ p s vs e.
+          let passed = plain-passed p start steps readings vs e .0 in
+          fits-left start steps readings p s (passed .inside) (passed .small-steps) (passed .small-readings);
     }
 facts (flip slot position) =
     record {

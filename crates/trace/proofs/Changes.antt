@@ -2,33 +2,39 @@
 -- and nothing changes; where they pass, its own rows decide, by the slot's content alone; where all pass, the new content is stored.
 use Prim.Native.Nat.{ℕ, _<_, _≤_}
 use mathlib.Core.Path.{_≡_, refl, sym, _∙_}
-use mathlib.Core.List.{List, _∷_}
+use mathlib.Core.List.{List, [], _∷_}
+use native.Mathlib.Omega.{arith}
 use lib.Bits.{bitXor, bitOr}
 use borrow.Author.Tests.{le-leb, lt-leb, le-ltb}
 use Rattle.codes.specs.declared.code.Code.{Code}
-use Rattle.codes.specs.Answer.{refused, Row, Passes, Refuses}
+use Rattle.codes.specs.Answer.{accepted, refused, Row, Passes, Refuses}
 use Rattle.codes.specs.Projection.{Projection, width}
 use Rattle.codes.specs.Message.{encode}
 use Rattle.codes.specs.Codes.{projection, stepLimit}
 use Rattle.trace.specs.declared.layout.Place.{Place}
+use Rattle.trace.specs.declared.layout.Header.{Header}
 use Rattle.trace.specs.declared.slot.Content.{Content}
 use Rattle.trace.specs.declared.change.Change.{Change}
+use Rattle.trace.specs.declared.change.Changed.{Changed}
 use Rattle.trace.specs.declared.answer.Refusal.{Refusal}
+use Rattle.trace.specs.declared.answer.Done.{Done}
 use Rattle.trace.specs.declared.answer.LoadAnswer.{LoadAnswer}
 use Rattle.trace.specs.declared.loads.Load.{Load}
-use Rattle.trace.specs.Layout.{contentBytes, storeAt}
-use Rattle.trace.specs.Calls.{after, outcome}
+use Rattle.trace.specs.Layout.{countIn, placeFrom, contentBytes, storeAt}
+use Rattle.trace.specs.Calls.{Call, putList, after, outcome}
 use Rattle.trace.specs.Answers.{refusalNumber, doneAnswer}
 use Rattle.trace.specs.Load.{positionsOf}
 use Rattle.trace.specs.View.{View, countOf, contentOf, messageOf, flipContent}
 use Rattle.trace.specs.Refusals.{noSlot}
-use Rattle.trace.specs.Rules.{bitRows, loadRows, refusals, gives}
-use Rattle.trace.specs.Trace.{slotRowsIn, viewIn, trailerRows, refusalsIn, contentAt, stored, onBytes}
-use Rattle.trace.specs.ContractsOfSteps.{FoundAt, callOf, doneOf, answerOf, Unnumbered, SlotIn, ChangedTo, BitIn}
+use Rattle.trace.specs.Rules.{bitRows, loadRows, refusals, gives, putAll}
+use Rattle.trace.specs.Trace.{projectionIn, slotRowsIn, viewIn, trailerRows, refusalsIn, contentAt, stored, putIn, onBytes}
+use Rattle.trace.specs.ContractsOfSteps.{OpenedAs, FoundAt, callOf, doneOf, answerOf, Unnumbered, SlotIn, ChangedTo, Changing, BitIn}
+use Rattle.trace.specs.ContractsOfSteps.{listRowsOf, ListFit}
 use Rattle.trace.specs.ContractsOfLoad.{LoadOf}
 use Rattle.codes.proofs.Rows.{unless-passes, unless-refuses, passes-append, refuses-front, refuses-behind}
-use Rattle.trace.proofs.Views.{view-code}
+use Rattle.trace.proofs.Views.{view-code, view-count}
 use Rattle.trace.proofs.PickLaws.{in-turn}
+use Rattle.trace.proofs.TrailerKept.{stored-trailer, same-opened}
 
 -- ---- the rows of each change, by what its slot holds
 
@@ -147,3 +153,62 @@ module _ (b : List ℕ) (slot : ℕ) (c : Change) where
         let passes = passes-append (trailerRows b) (refusals (callOf slot c) (viewIn b)) (f .opened) (t .passes (viewIn b) slot slot-in) in
         let given = unless-passes (refusalsIn (callOf slot c) b) (gives (callOf slot c) (viewIn b)) passes ∙ t .gives (viewIn b) slot in
         rw (given, answer-accepted c number, t .leaves b slot (sym (f .code)) (sym (f .content)), f .place)
+
+-- ---- a put into a slot of an opened buffer
+
+module _ (b : List ℕ) (h : Header) (o : OpenedAs b h) (slot step reading : ℕ) (there : slot < h .slots)
+    (hs : step < stepLimit (projection (h .code))) (hr : reading < 4096) where
+  abbrev within : slot < countIn b
+  within = rw (o .slots) at there
+
+  abbrev code-same : projectionIn b ≡ projection (h .code)
+  code-same = rw (o .code)
+
+  opened-slot : SlotIn (viewIn b) slot (projection (h .code)) (contentOf (viewIn b) slot)
+  opened-slot = record { there = rw (view-count b) within; code = view-code b ∙ code-same; content = refl }
+
+  pub put-not-refused : (r : Refusal) → ((old : Content) → Changing (projection (h .code)) old (Change.Put step reading) (Changed.Refused r)) → ⊥
+  put-not-refused r e =
+      let old = contentOf (viewIn b) slot in
+      let passes = put-changed (projection (h .code)) old step reading hs hr _ refl .passes (viewIn b) slot opened-slot in
+      let never = sym passes ∙ e old (viewIn b) slot opened-slot in
+      let z : _≡_ {A = ℕ} 0 1 = cc in
+      omega arith
+
+  module _ (p : Place) (place : p ≡ placeFrom (h .start) slot) (new : Content) (number : ℕ)
+      (e : (old : Content) → Changing (projection (h .code)) old (Change.Put step reading) (Changed.To new number)) where
+    at-place : storeAt b p (contentBytes new) ≡ stored slot new b
+    unfolding stored
+    at-place = rw (place, o .start)
+
+    pub put-stored : storeAt b p (contentBytes new) ≡ putIn slot step reading b
+    put-stored = at-place ∙ sym (e (contentOf (viewIn b) slot) .leaves b slot code-same refl)
+
+    pub put-opened : OpenedAs (storeAt b p (contentBytes new)) h
+    put-opened = rw at-place (same-opened b (stored slot new b) (stored-trailer b (o .passes) slot within new) h o)
+
+-- ---- a list of puts in a buffer
+
+module _ (b : List ℕ) (start : ℕ) (steps readings : List ℕ) where
+  abbrev call : Call
+  call = putList start steps readings
+
+  list-refused-by : (r : Refusal) → Refuses (refusalsIn call b) (refusalNumber r) → after (doneAnswer (Done.Refused r)) b ≡ onBytes call b
+  unfolding onBytes
+  list-refused-by r e = rw (unless-refuses {A = List ℕ} (refusalsIn call b) (accepted []) _ e)
+
+  pub list-not-opened : (r : Refusal) → Refuses (trailerRows b) (refusalNumber r) → after (doneAnswer (Done.Refused r)) b ≡ onBytes call b
+  list-not-opened r e = list-refused-by r (refuses-front (trailerRows b) (refusals call (viewIn b)) _ e)
+
+  module _ (h : Header) (o : OpenedAs b h) where
+    pub list-refused : (r : Refusal) → Refuses (listRowsOf h start steps readings) (refusalNumber r)
+        → after (doneAnswer (Done.Refused r)) b ≡ onBytes call b
+    list-refused r e =
+        let own : Refuses (refusals call (viewIn b)) (refusalNumber r) = rw (view-count b, view-code b, ← o .slots, ← o .code) e in
+        list-refused-by r (refuses-behind (trailerRows b) (refusals call (viewIn b)) _ (o .passes) own)
+
+    pub list-accepted : ListFit h start steps readings → after (accepted []) (putAll putIn start steps readings b) ≡ onBytes call b
+    unfolding onBytes
+    list-accepted fit =
+        let own : Passes (refusals call (viewIn b)) = rw (view-count b, view-code b, ← o .slots, ← o .code) (fit .passes) in
+        rw (unless-passes {A = List ℕ} (refusalsIn call b) (accepted []) (passes-append (trailerRows b) (refusals call (viewIn b)) (o .passes) own))

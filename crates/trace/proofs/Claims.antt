@@ -10,3 +10,4 @@ pub use Rattle.trace.proofs.SurveyLaws.{survey-honest, survey-slots}
 pub use Rattle.trace.proofs.PlainCalls.{plain-calls, last-put}
 pub use Rattle.trace.proofs.LoadLaws.{load-draws, load-example}
 pub use Rattle.trace.proofs.LoadClaims.{load-is-flips, load-in-use, load-meets-as-flip}
+pub use Rattle.trace.proofs.PutListClaims.{puts-are-puts, put-list-meets}

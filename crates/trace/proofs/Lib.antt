@@ -11,17 +11,20 @@ mod Distinct
 mod Slots
 mod Trailers
 mod LayoutExamples
--- A fault load: the positions that it draws, and the word that the code picks them in.
+-- A fault load: the positions that it draws, and the word that the code picks them in. A list of puts: limits, rows, one put after the other.
 mod LoadLaws
 mod PickLaws
+mod PutLists
 -- What an answer leaves.
 mod Outcomes
--- The steps of a call: what it sees of a buffer, how it comes to its slot, what the slot holds, what it takes from the word calls, a change.
+-- The steps of a call: what it sees of a buffer, how it comes to its slot, what the slot holds, what it takes from the word calls, a change, which
+-- keeps the trailer.
 mod Views
 mod Finding
 mod Contents
 mod Words
 mod Changes
+mod TrailerKept
 mod Readings
 -- The survey: a slot's status, tallies of answers, what a survey of any buffer counts.
 mod Statuses
@@ -42,6 +45,7 @@ mod TraceRows
 mod Demand1
 mod Demand2
 mod Demand3
--- What demand 3 shuts out; a load counts as its flips.
+-- What demand 3 shuts out; a load counts as its flips, and a list of puts as its puts.
 mod Strength
 mod LoadClaims
+mod PutListClaims

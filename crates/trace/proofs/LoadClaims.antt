@@ -4,7 +4,7 @@
 use Prim.Native.Nat.{ℕ, zero, suc, _<_, _≤_}
 use mathlib.Core.Path.{_≡_, refl, sym, ap, _∙_}
 use mathlib.Core.Bool.{false}
-use mathlib.Core.Logic.{inl, _↔_}
+use mathlib.Core.Logic.{_↔_}
 use mathlib.Core.List.{List, [], _∷_, _++_, map}
 use native.Mathlib.Omega.{arith}
 use lib.ListN.{length, getD, length-set}
@@ -12,7 +12,8 @@ use lib.Seq.{getD-set-same, set-getD, set-set}
 use borrow.Author.Tests.{lt-leb, le-ltb}
 use Rattle.codes.specs.Answer.{Answer, accepted, refused, Row, unless, Refuses}
 use Rattle.codes.specs.Projection.{Projection, width}
-use Rattle.codes.proofs.Rows.{last-apart}
+use Rattle.codes.specs.Claims.{Among}
+use Rattle.codes.proofs.Rows.{front-decides}
 use Rattle.trace.specs.Lists.{inTurn}
 use Rattle.trace.specs.Load.{positionsOf, handedBack}
 use Rattle.trace.specs.Calls.{Call, flip, load, after, run}
@@ -169,17 +170,17 @@ module _ (b : List ℕ) (slot : ℕ) where
   abbrev shared : List Row
   shared = slotRowsIn b slot ++ (badSlot (contentOf (viewIn b) slot) ∷ blankSlot (contentOf (viewIn b) slot) ∷ [])
 
-  by-shared : (a : Answer (List ℕ)) (last : Row) (n : ℕ) → (a ≡ refused n ↔ Refuses (shared ++ (last ∷ [])) n) → (n ≡ last .number → ⊥)
+  by-shared : (a : Answer (List ℕ)) (last : Row) (n : ℕ) → (a ≡ refused n ↔ Refuses (shared ++ (last ∷ [])) n) → (Among n (last .number ∷ []) → ⊥)
       → a ≡ refused n ↔ Refuses shared n
   by-shared a last n table apart =
-      let front = last-apart shared last n apart in
+      let front = front-decides (last ∷ []) n apart shared in
       (λ e. front .0 (table .0 e), λ e. table .1 (front .1 e))
 
 pub load-meets-as-flip : LoadMeetsAsFlip
 load-meets-as-flip b slot seed k position n among =
     let π = viewIn b .code in
     let of-load = by-shared b slot _ (tooMany π k) n (demand1 .calls (load slot seed k) b .answer .refuses n)
-    (λ e. among-apart (7 ∷ 8 ∷ 9 ∷ 10 ∷ 11 ∷ []) (14 ∷ []) refl n among (inl e)) in
+    (among-apart (7 ∷ 8 ∷ 9 ∷ 10 ∷ 11 ∷ []) (14 ∷ []) refl n among) in
     let of-flip = by-shared b slot _ (noPosition π position) n (demand1 .calls (flip slot position) b .answer .refuses n)
-    (λ e. among-apart (7 ∷ 8 ∷ 9 ∷ 10 ∷ 11 ∷ []) (12 ∷ []) refl n among (inl e)) in
+    (among-apart (7 ∷ 8 ∷ 9 ∷ 10 ∷ 11 ∷ []) (12 ∷ []) refl n among) in
     (λ e. of-flip .1 (of-load .0 e), λ e. of-load .1 (of-flip .0 e))

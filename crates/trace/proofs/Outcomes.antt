@@ -1,7 +1,7 @@
 -- What a call's answer makes of the states before and after it: the answer stays, an accepted call leaves the new state, a refused one the old.
 -- By the two cases of an answer.
 use Prim.Native.Nat.{ℕ}
-use mathlib.Core.Path.{_≡_, refl}
+use mathlib.Core.Path.{_≡_, refl, sym}
 use mathlib.Core.List.{List}
 use Rattle.codes.specs.Answer.{Answer, accepted, refused}
 use Rattle.codes.proofs.Rows.{not-refused}
@@ -16,6 +16,12 @@ module _ {S : Type 0} where
   pub outcome-same : (a : Answer (List ℕ)) (s : S) → outcome a s s ≡ after a s
   outcome-same (accepted vs) s = refl
   outcome-same (refused n) s = refl
+
+  -- an accepted call leaves the new state
+  pub outcome-accepted : (a : Answer (List ℕ)) (new old : S) (vs : List ℕ) → outcome a new old .answer ≡ accepted vs
+      → (a ≡ accepted vs) × (outcome a new old .state ≡ new)
+  outcome-accepted (accepted ws) new old vs e = (e, refl)
+  outcome-accepted (refused n) new old vs e = not-refused vs n (sym e)
 
   -- 'Refused calls change nothing'
   pub outcome-refused : (a : Answer (List ℕ)) (new old : S) (n : ℕ) → outcome a new old .answer ≡ refused n

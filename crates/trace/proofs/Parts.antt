@@ -52,6 +52,21 @@ overwrite-join b xs ys at n e h =
     (overwrite-after (take at b ++ xs) (drop (at + length xs) b) ys n seam
     ∙ simp (drop-drop (length ys) (at + length xs) b, beyond, append-assoc))
 
+-- what is written changes neither the number of bytes nor those behind it
+module _ (b xs : List ℕ) (at : ℕ) where
+  pub length-overwrite : at + length xs ≤ length b → length (overwrite b at xs) ≡ length b
+  unfolding overwrite
+  length-overwrite h = simp (length-append, length-take, length-drop) (omega arith)
+
+  pub part-behind : (from k : ℕ) → at + length xs ≤ from → from ≤ length b → part (overwrite b at xs) from k ≡ part b from k
+  unfolding part
+  part-behind from k h inside =
+      let seam : length (take at b ++ xs) ≡ at + length xs = simp (length-append, length-take) (omega arith) in
+      let rest : at + length xs + (from - (at + length xs)) ≡ from = omega arith in
+      let beyond : drop from (overwrite b at xs) ≡ drop from b =
+      rw (overwrite-split b xs at, ← rest, ← seam, drop-append-add) (rw seam (drop-drop (from - (at + length xs)) (at + length xs) b)) in
+      rw beyond
+
 -- a part that is lent, filled with a number and given back
 pub fill-part : (b filled : List ℕ) (at k v : ℕ) → at + k ≤ length b → filled ≡ bytesOf (length (midOf at (at + k - at) b)) v
     → putMid at (at + k - at) b filled ≡ overwrite b at (bytesOf k v)

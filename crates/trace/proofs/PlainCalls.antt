@@ -1,12 +1,14 @@
 -- What calls make of the plain trace. An accepted call leaves what its definition says, with another slot in the place of its own, which its rows say is
 -- there; a refused one leaves the trace. So a message that was put stays in its slot through any list of calls of which none overwrites
 -- it: by induction on the list, each call leaves the slot, or changes its F or M.
-use Prim.Native.Nat.{ℕ, _<_, _≤_}
+use Prim.Native.Nat.{ℕ, zero, suc, _+_, _*_, _<_, _≤_}
 use mathlib.Core.Path.{_≡_, refl, sym, ap, _∙_}
 use mathlib.Core.Bool.{Bool, true, false}
 use mathlib.Core.List.{List, [], _∷_}
+use native.Mathlib.Nat.{add-zero, add-suc, suc-add}
+use native.Mathlib.Omega.{arith}
 use lib.Dec.{eqb}
-use lib.ListN.{length, length-set, length-replicate}
+use lib.ListN.{length, getD, length-set, length-replicate}
 use lib.Seq.{getD-set-same, getD-set-other}
 use lib.Bits.{bitXor}
 use borrow.Author.Tests.{eqb-true, eqb-false, lt-leb, lt-ltb, le-ltb}
@@ -15,19 +17,19 @@ use Rattle.codes.specs.Projection.{Projection, width}
 use Rattle.codes.specs.Word.{bit}
 use Rattle.codes.proofs.Rows.{not-refused}
 use Rattle.trace.specs.Lists.{inTurn}
-use Rattle.trace.specs.Calls.{Call, put, flip, mark, load, clear, read, survey, Making, outcome, run}
+use Rattle.trace.specs.Calls.{Call, put, putList, flip, mark, load, clear, read, survey, Making, outcome, run}
 use Rattle.trace.specs.Load.{positionsOf, handedBack}
 use Rattle.trace.specs.Refusals.{noPosition, tooMany}
 use Rattle.trace.specs.View.{messageOf}
-use Rattle.trace.specs.Rules.{refusals, gives}
-use Rattle.trace.specs.Plain.{Slot, Plain, projectionOf, slotOf, withSlot, viewOf, fresh, flipped, marked, plainLeaves, onPlain}
+use Rattle.trace.specs.Rules.{refusals, gives, putAll}
+use Rattle.trace.specs.Plain.{Slot, Plain, projectionOf, slotOf, withSlot, viewOf, fresh, plainPut, flipped, marked, plainLeaves, onPlain}
 use Rattle.trace.specs.ContractsOfLoad.{toggle}
-use Rattle.trace.specs.Claims.{SlotBecame, Toggled, Added, PlainCalls, Overwrites, Kept, plainAfter, LastPut}
-use Rattle.trace.proofs.Outcomes.{outcome-answer, outcome-same, outcome-refused}
+use Rattle.trace.specs.Claims.{SlotBecame, SlotsBecame, Toggled, Added, PlainCalls, Overwrites, Kept, plainAfter, Puts, LastPut}
+use Rattle.trace.proofs.Outcomes.{outcome-answer, outcome-same, outcome-accepted, outcome-refused}
 use Rattle.trace.proofs.Views.{plain-code, plain-count, plain-content}
 use Rattle.trace.proofs.Makings.{all-blank}
 use Rattle.trace.proofs.Runs.{run-append}
-use Rattle.trace.proofs.CallFacts.{there, written-passed, position-inside}
+use Rattle.trace.proofs.CallFacts.{there, plain-passed, written-passed, position-inside}
 use Rattle.trace.proofs.Sets.{or-twice, toggled, added}
 use Rattle.trace.proofs.PickLaws.{in-turn}
 
@@ -47,12 +49,31 @@ became p slot x h =
 pub accepted-leaves : (c : Call) (p : Plain) (vs : List ℕ) → onPlain c p .answer ≡ accepted vs
     → (unless (refusals c (viewOf p)) (gives c (viewOf p)) ≡ accepted vs) × (onPlain c p .state ≡ plainLeaves c p)
 unfolding onPlain
-accepted-leaves c p vs e = go (unless (refusals c (viewOf p)) (gives c (viewOf p))) e
+accepted-leaves c p vs e = outcome-accepted (unless (refusals c (viewOf p)) (gives c (viewOf p))) (plainLeaves c p) p vs e
+
+-- a list of puts changes its slots in turn: the first put changes the first slot, and the rest leave it
+list-became : (start : ℕ) (steps readings : List ℕ) (p : Plain) → start + length steps ≤ length (p .slots) → length steps ≡ length readings
+    → SlotsBecame p start steps readings (putAll plainPut start steps readings p)
+unfolding putAll
+list-became start [] readings p inside even =
+    record { own = λ i h. absurd (omega arith); others = λ other out. refl; count = refl; code = refl; free = refl }
+list-became start (step ∷ steps) [] p inside even = absurd (omega arith)
+list-became start (step ∷ steps) (reading ∷ readings) p inside even =
+    let first = became p start (Slot.written (messageOf step reading) 0 0) (omega arith) in
+    let rest = list-became (suc start) steps readings (plainPut start step reading p) (rw length-set (omega arith)) (omega arith) in
+    record {
+      own = own (first .own) rest;
+      others = λ other out. rest .others other (λ k. out (omega arith, omega arith)) ∙ first .others other (λ same. out (omega arith, omega arith));
+      count = rest .count ∙ first .count;
+      code = rest .code;
+      free = rest .free;
+    }
   where
-    go : (a : Answer (List ℕ)) → outcome a (plainLeaves c p) p .answer ≡ accepted vs
-        → (a ≡ accepted vs) × (outcome a (plainLeaves c p) p .state ≡ plainLeaves c p)
-    go (accepted ws) e = (e, refl)
-    go (refused n) e = not-refused vs n (sym e)
+    own : {q r : Plain} → slotOf q start ≡ Slot.written (messageOf step reading) 0 0 → SlotsBecame q (suc start) steps readings r
+        → (i : ℕ) → i < length (step ∷ steps)
+        → slotOf r (start + i) ≡ Slot.written (getD (step ∷ steps) i 0 * 4096 + getD (reading ∷ readings) i 0) 0 0
+    own first rest zero h = rw add-zero (rest .others start (λ k. omega arith) ∙ first)
+    own first rest (suc i) h = rw (add-suc, ← suc-add) (rest .own i (omega arith))
 
 module _ (p : Plain) (slot : ℕ) where
   puts : (step reading : ℕ) (vs : List ℕ) → onPlain (put slot step reading) p .answer ≡ accepted vs
@@ -60,6 +81,13 @@ module _ (p : Plain) (slot : ℕ) where
   puts step reading vs e =
       let u = accepted-leaves (put slot step reading) p vs e in
       rw (u .1) (became p slot _ (there p slot _ vs (u .0) .0))
+
+  put-lists : (steps readings : List ℕ) (vs : List ℕ) → onPlain (putList slot steps readings) p .answer ≡ accepted vs
+      → SlotsBecame p slot steps readings (onPlain (putList slot steps readings) p .state)
+  put-lists steps readings vs e =
+      let u = accepted-leaves (putList slot steps readings) p vs e in
+      let passed = plain-passed p slot steps readings vs (u .0) .0 in
+      rw (u .1) (list-became slot steps readings p (passed .inside) (passed .even))
 
   clears : (vs : List ℕ) → onPlain (clear slot) p .answer ≡ accepted vs → SlotBecame p slot Slot.blank (onPlain (clear slot) p .state)
   clears vs e =
@@ -155,6 +183,7 @@ plain-calls =
             ),
           );
       puts = λ p slot step reading e. puts p slot step reading [] e;
+      put-lists = λ p start steps readings e. put-lists p start steps readings [] e;
       flips = λ p slot position m F M written e. flips p slot position m F M written [] e;
       marks = λ p slot position m F M written e. marks p slot position m F M written [] e;
       loads =
@@ -189,6 +218,8 @@ module _ (slot m : ℕ) where
   unfolding Has
   accepted-has (put other step reading) p vs e stays h =
       by-slot p _ other _ (accepted-leaves (put other step reading) p vs e .1) h (λ same. absurd (stays (sym same)))
+  accepted-has (putList start steps readings) p vs e stays h =
+      (h .0, h .1, put-lists p start steps readings vs e .others slot stays ∙ h .2)
   accepted-has (clear other) p vs e stays h = by-slot p _ other _ (accepted-leaves (clear other) p vs e .1) h (λ same. absurd (stays (sym same)))
   accepted-has (flip other position) p vs e stays h =
       by-slot p _ other _ (accepted-leaves (flip other position) p vs e .1) h
@@ -214,10 +245,23 @@ module _ (slot m : ℕ) where
   list-has [] p kept h = h
   list-has (c ∷ cs) p kept h = list-has cs (onPlain c p .state) (kept .1) (call-has c p (kept .0) h)
 
+-- a slot that a call puts into has its message then
+put-has : (c : Call) (p : Plain) (slot step reading : ℕ) → Puts slot step reading c → onPlain c p .answer ≡ accepted []
+    → Has (onPlain c p .state) slot (messageOf step reading)
+unfolding Has
+put-has (put other step′ reading′) p slot step reading t e = (0, 0, rw (← t .0, ← t .1, ← t .2) (puts p other step′ reading′ [] e .own))
+put-has (putList start steps readings) p slot step reading t e =
+    (0, 0, rw (← t .2, ← t .3, ← t .4) (put-lists p start steps readings [] e .own (t .0) (t .1)))
+put-has (flip other position) p slot step reading t e = absurd t
+put-has (mark other position) p slot step reading t e = absurd t
+put-has (load other seed k) p slot step reading t e = absurd t
+put-has (clear other) p slot step reading t e = absurd t
+put-has (read other) p slot step reading t e = absurd t
+put-has survey p slot step reading t e = absurd t
+
 pub last-put : LastPut
 unfolding run Has
-last-put found m before behind slot step reading e kept =
-    let call = put slot step reading in
+last-put found m before behind c slot step reading puts e kept =
     let p = plainAfter found m before in
-    rw (run-append onPlain before (call ∷ behind) (fresh m found))
-    (list-has slot (messageOf step reading) behind (onPlain call p .state) kept (0, 0, puts p slot step reading [] e .own))
+    rw (run-append onPlain before (c ∷ behind) (fresh m found))
+    (list-has slot (messageOf step reading) behind (onPlain c p .state) kept (put-has c p slot step reading puts e))

@@ -1,11 +1,12 @@
 -- When each row of the trace calls is met. A row's test is made of comparisons, and says what they say; what a slot holds is bad just where its
 -- numbers pass the test of bad ones, and blank just where all three are 0.
-use Prim.Native.Nat.{ℕ, _*_, _^_, _≤_}
+use Prim.Native.Nat.{ℕ, _+_, _*_, _^_, _≤_}
 use mathlib.Core.Path.{_≡_, refl, sym, _∙_}
 use mathlib.Core.Bool.{Bool, true, false, not, cond, _&&_, false≢true}
 use mathlib.Core.Logic.{_⊎_, inr, ⊎-elim, _↔_}
 use native.Mathlib.Omega.{arith}
 use lib.Dec.{leb, eqb}
+use lib.ListN.{length}
 use lib.Pow.{pow-pos}
 use Rattle.codes.specs.Projection.{Projection, width}
 use Rattle.codes.specs.Codes.{isCode, stepLimit}
@@ -13,9 +14,11 @@ use Rattle.codes.proofs.Claims.{word-rows-mean}
 use Rattle.codes.proofs.Laws.{code-iff}
 use Rattle.codes.proofs.Tests.{leb-iff, ltb-iff, eqb-iff, not-iff, and-iff, or-iff}
 use Rattle.trace.specs.declared.slot.Content.{Content}
+use Rattle.trace.specs.Lists.{reaches}
 use Rattle.trace.specs.Refusals.{isCount, isFit, isBad, holdsBad, holdsNothing}
 use Rattle.trace.specs.Trace.{contentWith}
 use Rattle.trace.specs.Claims.{TraceRowsMean}
+use Rattle.trace.proofs.PutLists.{reaches-iff}
 
 count-iff : (n : ℕ) → isCount n ≡ true ↔ (1 ≤ n) × (n ≤ 4000)
 count-iff n = and-iff (leb 1 n) (leb n 4000) (leb-iff 1 n) (leb-iff n 4000)
@@ -95,4 +98,9 @@ trace-rows-mean =
       no-position = λ π position. leb-iff (width π) position;
       too-large = λ π step reading. or-iff (leb (stepLimit π) step) (leb 4096 reading) (leb-iff (stepLimit π) step) (leb-iff 4096 reading);
       too-many = λ π k. ltb-iff (width π) k;
+      past-end = λ n start steps. ltb-iff n (start + length steps);
+      uneven = λ steps readings. not-iff (eqb (length steps) (length readings)) (eqb-iff (length steps) (length readings));
+      one-too-large =
+          λ π steps readings.
+          or-iff (reaches (stepLimit π) steps) (reaches 4096 readings) (reaches-iff (stepLimit π) steps) (reaches-iff 4096 readings);
     }

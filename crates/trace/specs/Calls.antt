@@ -1,5 +1,5 @@
 -- Making, the calls of a list, what a call leaves, and runs of lists: 'any list of puts, flips, marks, clears, surveys and reads, refused ones
--- included, on a freshly made trace', and of loads.
+-- included, on a freshly made trace', of loads and of lists of puts.
 use mathlib.Core.List.{List, [], _∷_}
 use Prim.Native.Nat.{ℕ}
 use Rattle.codes.specs.Answer.{Answer, accepted, refused}
@@ -13,6 +13,8 @@ pub record Making : Type 0 where
 pub data Call : Type 0 where
   -- slot, step, reading
   put : ℕ → ℕ → ℕ → Call
+  -- start, 'a list of steps and a list of readings'
+  putList : ℕ → List ℕ → List ℕ → Call
   -- slot, position
   flip : ℕ → ℕ → Call
   mark : ℕ → ℕ → Call

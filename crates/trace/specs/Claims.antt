@@ -23,13 +23,13 @@ use Rattle.trace.specs.declared.slot.Content.{Content}
 use Rattle.trace.specs.declared.status.Status.{Status}
 use Rattle.trace.specs.Layout.{neededFor, countIn, freeFor}
 use Rattle.trace.specs.Answers.{readingValues, pressuresValues, surveyValues}
-use Rattle.trace.specs.Calls.{Call, put, flip, mark, load, clear, read, survey, Making, After, after, Run, run}
+use Rattle.trace.specs.Calls.{Call, put, putList, flip, mark, load, clear, read, survey, Making, After, after, Run, run}
 use Rattle.trace.specs.Load.{positionsOf, handedBack}
 use Rattle.trace.specs.Refusals.{isCount, wrongCount, tooShort, trailerUnfit, noSlot, badSlot, blankSlot, lostSlot}
-use Rattle.trace.specs.Refusals.{noPosition, tooLarge, tooMany}
+use Rattle.trace.specs.Refusals.{noPosition, tooLarge, tooMany, pastEnd, uneven, oneTooLarge}
 use Rattle.trace.specs.View.{contentOf, readingOf}
 use Rattle.trace.specs.Survey.{statusOf, count, pressures, total, extremes}
-use Rattle.trace.specs.Trace.{contentWith, viewIn, short, refusalsIn, stored, onBytes, makeRows, make, aloneIn, surveyIn}
+use Rattle.trace.specs.Trace.{contentWith, projectionIn, viewIn, short, refusalsIn, stored, onBytes, makeRows, make, aloneIn, surveyIn}
 use Rattle.trace.specs.Plain.{Slot, Plain, projectionOf, slotOf, bytes, fresh, marked, onPlain}
 
 -- ---- demand 1
@@ -37,6 +37,7 @@ use Rattle.trace.specs.Plain.{Slot, Plain, projectionOf, slotOf, bytes, 
 -- the numbers that the table of refusals, the scope's and the requests', gives a call, and a making, in the order in which they are tried
 abbrev pub numbersOf : Call → List ℕ
 numbersOf (put slot step reading) = 7 ∷ 8 ∷ 9 ∷ 13 ∷ []
+numbersOf (putList start steps readings) = 7 ∷ 8 ∷ 9 ∷ 15 ∷ 16 ∷ 13 ∷ []
 numbersOf (flip slot position) = 7 ∷ 8 ∷ 9 ∷ 10 ∷ 11 ∷ 12 ∷ []
 numbersOf (mark slot position) = 7 ∷ 8 ∷ 9 ∷ 10 ∷ 11 ∷ 12 ∷ []
 numbersOf (load slot seed k) = 7 ∷ 8 ∷ 9 ∷ 10 ∷ 11 ∷ 14 ∷ []
@@ -53,6 +54,11 @@ makingNumbers = 1 ∷ 6 ∷ 7 ∷ []
 pub record Harmless (order : List ℕ) (rows : List Row) (b : List ℕ) (r : After (List ℕ)) : Type 0 where
   pub answer : ByTable order rows (r .answer)
   pub unchanged : (n : ℕ) → r .answer ≡ refused n → r .state ≡ b
+
+-- a step or a reading of two lists is too large
+abbrev pub SomeTooLarge : Projection → List ℕ → List ℕ → Type 0
+SomeTooLarge π steps readings =
+    ((step : ℕ) × Among step steps × (stepLimit π ≤ step)) ⊎ ((reading : ℕ) × Among reading readings × (4096 ≤ reading))
 
 -- when each row of the trace calls is met, in the words of the scope's table and of the requests
 pub record TraceRowsMean : Type 0 where
@@ -83,6 +89,13 @@ pub record TraceRowsMean : Type 0 where
   pub too-large : (π : Projection) (step reading : ℕ) → (tooLarge π step reading .met ≡ true ↔ (stepLimit π ≤ step) ⊎ (4096 ≤ reading))
   -- 14: 'k is above the word's width'
   pub too-many : (π : Projection) (k : ℕ) → (tooMany π k .met ≡ true ↔ width π < k)
+  -- 15: 'start plus the number of steps passes N'
+  pub past-end : (n start : ℕ) (steps : List ℕ) → (pastEnd n start steps .met ≡ true ↔ n < start + length steps)
+  -- 16: 'the lists differ in length'
+  pub uneven : (steps readings : List ℕ) → (uneven steps readings .met ≡ true ↔ (length steps ≡ length readings → ⊥))
+  -- 13 of lists: a step or a reading of them is too large
+  pub one-too-large : (π : Projection) (steps readings : List ℕ)
+      → (oneTooLarge π steps readings .met ≡ true ↔ SomeTooLarge π steps readings)
 
 pub record Demand1 : Type 0 where
   pub calls : (c : Call) (b : List ℕ) → Harmless (numbersOf c) (refusalsIn c b) b (onBytes c b)
@@ -217,6 +230,14 @@ pub record SlotBecame (p : Plain) (slot : ℕ) (s : Slot) (q : Plain) : Type 0 w
   pub code : q .code ≡ p .code
   pub free : q .free ≡ p .free
 
+-- the slots from a start on have each a message of a step and a reading, in order, and nothing else changed
+pub record SlotsBecame (p : Plain) (start : ℕ) (steps readings : List ℕ) (q : Plain) : Type 0 where
+  pub own : (i : ℕ) → i < length steps → slotOf q (start + i) ≡ Slot.written (getD steps i 0 * 4096 + getD readings i 0) 0 0
+  pub others : (other : ℕ) → ((start ≤ other) × (other < start + length steps) → ⊥) → slotOf q other ≡ slotOf p other
+  pub count : length (q .slots) ≡ length (p .slots)
+  pub code : q .code ≡ p .code
+  pub free : q .free ≡ p .free
+
 -- sets are words whose ones are their positions: a position was moved into a set or out of it, and no other
 pub record Toggled (π : Projection) (position set set′ : ℕ) : Type 0 where
   pub own : bitAt π set′ position ≡ 1 - bitAt π set position
@@ -238,6 +259,9 @@ pub record PlainCalls : Type 0 where
   -- 'Put empties both'
   pub puts : (p : Plain) (slot step reading : ℕ) → onPlain (put slot step reading) p .answer ≡ accepted []
       → SlotBecame p slot (Slot.written (step * 4096 + reading) 0 0) (onPlain (put slot step reading) p .state)
+  -- a list of puts, each of which 'empties both'
+  pub put-lists : (p : Plain) (start : ℕ) (steps readings : List ℕ) → onPlain (putList start steps readings) p .answer ≡ accepted []
+      → SlotsBecame p start steps readings (onPlain (putList start steps readings) p .state)
   -- 'flip moves a position into F or out of it'
   pub flips : (p : Plain) (slot position m F M : ℕ) → slotOf p slot ≡ Slot.written m F M → onPlain (flip slot position) p .answer ≡ accepted []
       → (F′ : ℕ) × Toggled (projectionOf p) position F F′ × SlotBecame p slot (Slot.written m F′ M) (onPlain (flip slot position) p .state)
@@ -259,9 +283,10 @@ pub record PlainCalls : Type 0 where
   pub surveys : (p : Plain) → onPlain survey p .state ≡ p
   pub refusals : (c : Call) (p : Plain) (n : ℕ) → onPlain c p .answer ≡ refused n → onPlain c p .state ≡ p
 
--- a call that puts into a slot, or clears it
+-- a call that puts into a slot, by itself or in a list, or clears it
 abbrev pub Overwrites : ℕ → Call → Type 0
 Overwrites slot (put other step reading) = other ≡ slot
+Overwrites slot (putList start steps readings) = (start ≤ slot) × (slot < start + length steps)
 Overwrites slot (clear other) = other ≡ slot
 Overwrites slot (flip other position) = ⊥
 Overwrites slot (mark other position) = ⊥
@@ -274,13 +299,24 @@ abbrev pub Kept : ℕ → List Call → Plain → Type 0
 Kept slot [] p = Unit {0}
 Kept slot (c ∷ cs) p = (Overwrites slot c → (n : ℕ) × (onPlain c p .answer ≡ refused n)) × Kept slot cs (onPlain c p .state)
 
--- 'the step and reading last put there': a slot has them where a put of them was accepted, and no call behind it overwrote the slot
+-- a call that puts a step and a reading into a slot, by itself or in a list
+abbrev pub Puts : ℕ → ℕ → ℕ → Call → Type 0
+Puts slot step reading (put other step′ reading′) = (other ≡ slot) × (step′ ≡ step) × (reading′ ≡ reading)
+Puts slot step reading (putList start steps readings) =
+    (i : ℕ) × (i < length steps) × (start + i ≡ slot) × (getD steps i 0 ≡ step) × (getD readings i 0 ≡ reading)
+Puts slot step reading (flip other position) = ⊥
+Puts slot step reading (mark other position) = ⊥
+Puts slot step reading (load other seed k) = ⊥
+Puts slot step reading (clear other) = ⊥
+Puts slot step reading (read other) = ⊥
+Puts slot step reading survey = ⊥
+
+-- 'the step and reading last put there': a slot has them where a call that puts them was accepted, and no call behind it overwrote the slot
 abbrev pub LastPut : Type 0
 LastPut =
-    (found : List ℕ) (m : Making) (before behind : List Call) (slot step reading : ℕ)
-    → onPlain (put slot step reading) (plainAfter found m before) .answer ≡ accepted []
-    → Kept slot behind (onPlain (put slot step reading) (plainAfter found m before) .state)
-    → (F M : ℕ) × (slotOf (plainAfter found m (before ++ (put slot step reading ∷ behind))) slot ≡ Slot.written (step * 4096 + reading) F M)
+    (found : List ℕ) (m : Making) (before behind : List Call) (c : Call) (slot step reading : ℕ) → Puts slot step reading c
+    → onPlain c (plainAfter found m before) .answer ≡ accepted [] → Kept slot behind (onPlain c (plainAfter found m before) .state)
+    → (F M : ℕ) × (slotOf (plainAfter found m (before ++ (c ∷ behind))) slot ≡ Slot.written (step * 4096 + reading) F M)
 
 -- ---- a repeatable fault load
 
@@ -331,6 +367,47 @@ abbrev pub LoadMeetsAsFlip : Type 0
 LoadMeetsAsFlip =
     (b : List ℕ) (slot seed k position n : ℕ) → Among n (7 ∷ 8 ∷ 9 ∷ 10 ∷ 11 ∷ [])
     → (onBytes (load slot seed k) b .answer ≡ refused n ↔ onBytes (flip slot position) b .answer ≡ refused n)
+
+-- ---- a whole shift at a time
+
+-- the single puts of a list of steps and a list of readings, from a slot on, in order
+abbrev pub singlePuts : ℕ → List ℕ → List ℕ → List Call
+singlePuts start [] readings = []
+singlePuts start (step ∷ steps) [] = []
+singlePuts start (step ∷ steps) (reading ∷ readings) = put start step reading ∷ singlePuts (suc start) steps readings
+
+-- 'all or nothing: it leaves what the single puts in order would leave, or it changes no byte. In any list of calls it counts as those single puts, a
+-- refused one as none; its one answer there, in the plain trace too, is that it was accepted, or its refusal': in a state of the bytes or of the
+-- plain trace
+pub record CountsAsPuts {S : Type 0} (machine : Call → S → After S) (s : S) (start : ℕ) (steps readings : List ℕ) : Type 0 where
+  -- the single puts, one for each step, are all accepted and leave what the list leaves
+  pub singles : (vs : List ℕ) → machine (putList start steps readings) s .answer ≡ accepted vs
+      → (vs ≡ [])
+      × (run machine (singlePuts start steps readings) s ≡ allAccepted (length steps) (machine (putList start steps readings) s .state))
+  pub none : (n : ℕ) → machine (putList start steps readings) s .answer ≡ refused n → machine (putList start steps readings) s .state ≡ s
+
+-- whatever the buffer holds, and so after any list of calls
+pub record PutsArePuts : Type 0 where
+  pub bytes : (b : List ℕ) (start : ℕ) (steps readings : List ℕ) → CountsAsPuts onBytes b start steps readings
+  pub plain : (p : Plain) (start : ℕ) (steps readings : List ℕ) → CountsAsPuts onPlain p start steps readings
+
+-- what the lists meet where the start slot exists in a buffer of n slots; 7, 8 and 9 are met as by a clear of that slot
+pub record ListMeets (π : Projection) (n start : ℕ) (steps readings : List ℕ) (Exists : Type 0) (a : Answer (List ℕ)) : Type 0 where
+  -- '15 when start plus the number of steps passes N, after 9'
+  pub past-end : a ≡ refused 15 ↔ Exists × (n < start + length steps)
+  -- '16 when the lists differ in length, after 15'
+  pub uneven : a ≡ refused 16 ↔ Exists × (start + length steps ≤ n) × (length steps ≡ length readings → ⊥)
+  -- '13 stays last of these'
+  pub too-large : a ≡ refused 13 ↔ Exists × (start + length steps ≤ n) × (length steps ≡ length readings) × SomeTooLarge π steps readings
+
+pub record PutListMeets : Type 0 where
+  pub slot : (b : List ℕ) (start : ℕ) (steps readings : List ℕ) (n : ℕ) → Among n (7 ∷ 8 ∷ 9 ∷ [])
+      → (onBytes (putList start steps readings) b .answer ≡ refused n ↔ onBytes (clear start) b .answer ≡ refused n)
+  pub lists : (b : List ℕ) (start : ℕ) (steps readings : List ℕ)
+      → ListMeets (projectionIn b) (countIn b) start steps readings (onBytes (clear start) b .answer ≡ accepted [])
+      (onBytes (putList start steps readings) b .answer)
+  -- 'Empty lists are accepted if the start slot exists'
+  pub empty : (b : List ℕ) (start : ℕ) → onBytes (clear start) b .answer ≡ accepted [] → onBytes (putList start [] []) b ≡ after (accepted []) b
 
 -- ---- the survey
 

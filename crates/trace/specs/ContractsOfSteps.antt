@@ -6,9 +6,9 @@ use Prim.Native.Nat.{ℕ, _+_, _-_, _<_, _≤_, _^_}
 use lib.ListN.{length}
 use Rattle.codes.specs.declared.code.Code.{Code}
 use Rattle.codes.specs.declared.answer.Corrected.{Corrected}
-use Rattle.codes.specs.Answer.{Answer, accepted, Passes, Refuses}
+use Rattle.codes.specs.Answer.{Answer, accepted, Row, Passes, Refuses}
 use Rattle.codes.specs.Projection.{Projection, width}
-use Rattle.codes.specs.Codes.{projection, codeOf}
+use Rattle.codes.specs.Codes.{projection, codeOf, stepLimit}
 use Rattle.codes.specs.Word.{bit}
 use Rattle.trace.specs.declared.answer.Reading.{Reading}
 use Rattle.trace.specs.declared.answer.Counts.{Counts}
@@ -27,11 +27,12 @@ use Rattle.trace.specs.declared.change.BitFound.{BitFound}
 use Rattle.trace.specs.declared.change.Change.{Change}
 use Rattle.trace.specs.declared.change.Changed.{Changed}
 use Rattle.trace.specs.declared.tally.Tally.{Tally}
+use Rattle.trace.specs.Lists.{reaches}
 use Rattle.trace.specs.Layout.{stateSize, wordSize, distanceOf, neededFor, startIn, countIn, codeIn, placeIn}
 use Rattle.trace.specs.Calls.{Call, put, flip, mark, load, clear}
 use Rattle.trace.specs.View.{View, countOf, contentOf}
 use Rattle.trace.specs.Refusals.{isFit}
-use Rattle.trace.specs.Rules.{bitRows, refusals, gives}
+use Rattle.trace.specs.Rules.{bitRows, listRows, refusals, gives}
 use Rattle.trace.specs.Survey.{statusOf, is, countsOf, pressures, total, smallest, largest, extremes}
 use Rattle.trace.specs.Trace.{projectionIn, contentAt, viewIn, trailerRows, slotRowsIn, stored, leaves}
 use Rattle.trace.specs.Answers.{refusalNumber, doneAnswer, loadAnswer}
@@ -152,6 +153,24 @@ pub record BitIn (π : Projection) (c : Content) (position word marks x : ℕ) :
 abbrev pub FindingBit : Projection → Content → ℕ → BitFound → Type 0
 FindingBit π c position (BitFound.At word marks x) = BitIn π c position word marks x
 FindingBit π c position (BitFound.Refused r) = Refuses (bitRows π c position) (refusalNumber r)
+
+-- ---- a list of puts
+
+-- the rows of a list of puts in a trace with such a header
+abbrev pub listRowsOf : Header → ℕ → List ℕ → List ℕ → List Row
+listRowsOf h start steps readings = listRows (projection (h .code)) (h .slots) start steps readings
+
+-- lists that fit the slots from a start on: each step has a slot and a reading, and none is too large
+pub record ListFit (h : Header) (start : ℕ) (steps readings : List ℕ) : Type 0 where
+  pub passes : Passes (listRowsOf h start steps readings)
+  pub inside : start + length steps ≤ h .slots
+  pub even : length steps ≡ length readings
+  pub small-steps : reaches (stepLimit (projection (h .code))) steps ≡ false
+  pub small-readings : reaches 4096 readings ≡ false
+
+abbrev pub Fitted : Header → ℕ → List ℕ → List ℕ → Done → Type 0
+Fitted h start steps readings Done.Accepted = ListFit h start steps readings
+Fitted h start steps readings (Done.Refused r) = Refuses (listRowsOf h start steps readings) (refusalNumber r)
 
 -- ---- the survey
 

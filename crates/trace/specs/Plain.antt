@@ -10,12 +10,12 @@ use Rattle.codes.specs.Word.{bit}
 use Rattle.codes.specs.Message.{encode}
 use Rattle.codes.specs.Codes.{projection, codeOf}
 use Rattle.trace.specs.declared.slot.Content.{Content}
-use Rattle.trace.specs.Calls.{Call, put, flip, mark, load, clear, read, survey, Making, After, outcome}
+use Rattle.trace.specs.Calls.{Call, put, putList, flip, mark, load, clear, read, survey, Making, After, outcome}
 use Rattle.trace.specs.Layout.{SlotBytes, contentBytes, body, trailer, freeFor}
 use Rattle.trace.specs.Lists.{inTurn}
 use Rattle.trace.specs.Load.{positionsOf}
 use Rattle.trace.specs.View.{View, messageOf}
-use Rattle.trace.specs.Rules.{refusals, gives}
+use Rattle.trace.specs.Rules.{refusals, gives, putAll}
 
 -- 'A slot is blank, or is written and has the message last put, a set F and a set M'
 pub data Slot : Type 0 where
@@ -61,6 +61,10 @@ bytes p = p .free ++ (body (map (storedAs (projectionOf p)) (p .slots)) ++ trail
 
 -- ---- its calls
 
+-- a put into a slot: its message, with both sets empty
+abbrev pub plainPut : ℕ → ℕ → ℕ → Plain → Plain
+plainPut slot step reading p = withSlot slot (Slot.written (messageOf step reading) 0 0) p
+
 -- 'flip moves a position into F or out of it'
 abbrev pub flipped : Projection → ℕ → Slot → Slot
 flipped π position Slot.blank = Slot.blank
@@ -71,9 +75,11 @@ abbrev pub marked : Projection → ℕ → Slot → Slot
 marked π position Slot.blank = Slot.blank
 marked π position (Slot.written m F M) = Slot.written m F (bitOr M (bit π position))
 
--- 'Put empties both; flip moves a position into F or out of it; mark adds to M; clear blanks'; a load 'counts as k flips'
+-- 'Put empties both; flip moves a position into F or out of it; mark adds to M; clear blanks'; a load 'counts as k flips', a
+-- list of puts 'as those single puts'
 abbrev pub plainLeaves : Call → Plain → Plain
-plainLeaves (put slot step reading) p = withSlot slot (Slot.written (messageOf step reading) 0 0) p
+plainLeaves (put slot step reading) p = plainPut slot step reading p
+plainLeaves (putList start steps readings) p = putAll plainPut start steps readings p
 plainLeaves (flip slot position) p = withSlot slot (flipped (projectionOf p) position (slotOf p slot)) p
 plainLeaves (mark slot position) p = withSlot slot (marked (projectionOf p) position (slotOf p slot)) p
 plainLeaves (load slot seed k) p =
@@ -83,6 +89,6 @@ plainLeaves (read slot) p = p
 plainLeaves survey p = p
 
 -- a call on the plain trace: 'Refusals 9, 11, 12 and 13 follow from its slots and the call's numbers, 5 from mending; 7, 8 and 10 are never met';
--- 14 follows from the call's numbers
+-- 14 to 16 follow from its slots and the call's numbers
 unfoldable pub onPlain : Call → Plain → After Plain
 onPlain c p = outcome (unless (refusals c (viewOf p)) (gives c (viewOf p))) (plainLeaves c p) p

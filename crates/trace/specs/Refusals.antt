@@ -1,13 +1,16 @@
 -- The rows of the table of refusals that trace calls have, each under the words of the scope, or of its request, for when it is met. Refusal 1 is
 -- the codes' own row. The calls' tables stand in 'Rules'.
 use mathlib.Core.Bool.{Bool, true, false, not, _&&_, _||_}
-use Prim.Native.Nat.{ℕ, _^_}
+use mathlib.Core.List.{List}
+use Prim.Native.Nat.{ℕ, _+_, _^_}
 use lib.Dec.{leb, ltb, eqb}
+use lib.ListN.{length}
 use Rattle.codes.specs.Answer.{Row}
 use Rattle.codes.specs.Projection.{Projection, width}
 use Rattle.codes.specs.Correction.{correct, isFar}
 use Rattle.codes.specs.Codes.{isCode, stepLimit}
 use Rattle.trace.specs.declared.slot.Content.{Content}
+use Rattle.trace.specs.Lists.{reaches}
 use Rattle.trace.specs.Layout.{distanceOf}
 
 -- 'N (2 bytes, high first, 1 to 4,000)'
@@ -75,3 +78,15 @@ tooLarge π step reading = record { number = 13; met = leb (stepLimit π) step |
 -- '14 when k is above the word's width'
 abbrev pub tooMany : Projection → ℕ → Row
 tooMany π k = record { number = 14; met = ltb (width π) k }
+
+-- '15 when start plus the number of steps passes N'
+abbrev pub pastEnd : ℕ → ℕ → List ℕ → Row
+pastEnd n start steps = record { number = 15; met = ltb n (start + length steps) }
+
+-- '16 when the lists differ in length'
+abbrev pub uneven : List ℕ → List ℕ → Row
+uneven steps readings = record { number = 16; met = not (eqb (length steps) (length readings)) }
+
+-- 'step or reading too large', of a list of steps and a list of readings: one of them is
+abbrev pub oneTooLarge : Projection → List ℕ → List ℕ → Row
+oneTooLarge π steps readings = record { number = 13; met = reaches (stepLimit π) steps || reaches 4096 readings }

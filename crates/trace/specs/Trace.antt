@@ -13,14 +13,14 @@ use Rattle.trace.specs.declared.slot.Content.{Content}
 use Rattle.trace.specs.declared.answer.Reading.{Reading}
 use Rattle.trace.specs.declared.answer.Survey.{Survey}
 use Rattle.trace.specs.Lists.{span, inTurn}
-use Rattle.trace.specs.Calls.{Call, put, flip, mark, load, clear, read, survey, Making, After, outcome}
+use Rattle.trace.specs.Calls.{Call, put, putList, flip, mark, load, clear, read, survey, Making, After, outcome}
 use Rattle.trace.specs.Layout.{trailerSize, neededFor, trailerAt, distanceIn, countIn, codeIn, editionIn, placeIn, stateAt, wordAt, marksAt}
 use Rattle.trace.specs.Layout.{contentBytes, storeAt, made}
 use Rattle.trace.specs.Load.{positionsOf}
 use Rattle.trace.specs.View.{View, countOf, contentOf, readAlone, messageOf, putContent, flipContent, markContent}
 use Rattle.trace.specs.Survey.{surveyOf}
 use Rattle.trace.specs.Refusals.{wrongCount, tooShort, trailerUnfit, noSlot, isBad}
-use Rattle.trace.specs.Rules.{refusals, gives}
+use Rattle.trace.specs.Rules.{refusals, gives, putAll}
 
 -- ---- what a call sees of a buffer
 
@@ -64,9 +64,14 @@ slotRowsIn b slot = trailerRows b ++ (noSlot (countOf (viewIn b)) slot ∷ [])
 unfoldable pub stored : ℕ → Content → List ℕ → List ℕ
 stored slot c b = storeAt b (placeIn b slot) (contentBytes c)
 
+-- what a put into a slot leaves
+abbrev pub putIn : ℕ → ℕ → ℕ → List ℕ → List ℕ
+putIn slot step reading b = stored slot (putContent (projectionIn b) (messageOf step reading)) b
+
 -- the bytes that each call leaves where it is accepted; a load's positions are flipped in turn; 'Clear blanks'
 abbrev pub leaves : Call → List ℕ → List ℕ
-leaves (put slot step reading) b = stored slot (putContent (projectionIn b) (messageOf step reading)) b
+leaves (put slot step reading) b = putIn slot step reading b
+leaves (putList start steps readings) b = putAll putIn start steps readings b
 leaves (flip slot position) b = stored slot (flipContent (projectionIn b) position (contentOf (viewIn b) slot)) b
 leaves (mark slot position) b = stored slot (markContent (projectionIn b) position (contentOf (viewIn b) slot)) b
 leaves (load slot seed k) b =

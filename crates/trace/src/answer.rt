@@ -17,6 +17,8 @@ pub enum Refusal {
     NoPosition,
     TooLarge,
     TooMany,
+    PastEnd,
+    Uneven,
 }
 
 impl Refusal {
@@ -35,11 +37,13 @@ impl Refusal {
             Refusal::NoPosition => 12,
             Refusal::TooLarge => 13,
             Refusal::TooMany => 14,
+            Refusal::PastEnd => 15,
+            Refusal::Uneven => 16,
         }
     }
 }
 
-// Of making, put, flip, mark and clear.
+// Of making, put, list of puts, flip, mark and clear.
 pub enum Done {
     Accepted,
     Refused(Refusal),

@@ -44,7 +44,7 @@ pub(crate) enum BitFound {
 }
 
 // Refusal 13: a message's codeword and no marks, whatever the slot held.
-fn put_content(code: Code, step: u64, reading: u64) -> Changed
+pub(crate) fn put_content(code: Code, step: u64, reading: u64) -> Changed
     ensures { λ r. ⌜ ((old : Content) → Changing (projection code) old (Change.Put step reading) r) ⌝ }
 {
     if code.step_limit() <= step {

@@ -1,10 +1,11 @@
-// Traces of readings in a lent buffer: making, put, flip, mark, load, clear, read and survey.
+// Traces of readings in a lent buffer: making, put, list of puts, flip, mark, load, clear, read and survey.
 mod answer;
 mod bytes;
 mod calls;
 mod change;
 mod generator;
 mod layout;
+mod lists;
 mod loads;
 mod slot;
 mod status;
@@ -31,5 +32,6 @@ pub use calls::read;
 pub use calls::read_alone;
 pub use layout::SLOT;
 pub use layout::TRAILER;
+pub use lists::put_list;
 pub use status::Status;
 pub use surveys::survey;

@@ -1,6 +1,7 @@
 // The trace calls, tried: each refusal, also where a later one applies too, and the boundaries of every number; whether any byte changed;
-// surveys; and the worked loads.
+// surveys; the worked loads; and lists of puts.
 mod last;
+mod lists;
 mod loads;
 mod show;
 
@@ -400,4 +401,8 @@ fn main() {
     reads(4);
     surveys();
     loads::play_worked();
+    lists::play_lists(1, 128);
+    lists::play_lists(2, 128);
+    lists::play_lists(3, 1024);
+    lists::play_lists(4, 1024);
 }

@@ -27,7 +27,7 @@ fn show_refusal(r: Refusal) {
     named(b": refused ", r.number());
 }
 
-// What a make, put, flip, mark or clear answers.
+// What a make, put, list of puts, flip, mark or clear answers.
 pub(crate) fn show_done(answer: Done) {
     match answer {
         Done::Accepted => text(b": accepted"),

@@ -1,20 +1,10 @@
 -- `script::answering::answer` meets its contract: each call answers and leaves what its definition says, and its line is written.
-use mathlib.Core.Path.{_≡_, refl}
-use mathlib.Core.List.{List}
-use Prim.Native.Nat.{ℕ}
-use Rattle.codes.specs.Answer.{Answer}
-use Rattle.trace.specs.Calls.{After, after}
-use Rattle.lines.specs.Text.{Begins, Lendable}
-use Rattle.lines.specs.Answers.{answerLine}
-use Rattle.script.specs.Answering.{called, answered}
+use mathlib.Core.Path.{refl}
+use Rattle.script.specs.Answering.{answered}
 use borrow.Author.Needs.{needs}
+use Rattle.script.proofs.Called.{same}
 use Rattle.script.proofs.answering.answer.Statement.{statement}
 use Rattle.script.proofs.answering.answer.Tie as tie
-
--- the bytes that a call leaves, and the line of its answer, which is written
-same : (out out′ : List ℕ) {end : ℕ} {b : List ℕ} {a : Answer (List ℕ)} {s : After (List ℕ)} → after a b ≡ s
-    → Begins out (answerLine a) out′ end × Lendable out′ end → ((b ≡ called s .bytes) × Begins out (called s .line) out′ end) × Lendable out′ end
-same out out′ e w = rw (← e) ((refl, w .0), w .1)
 
 enum-known-call : tie.Need-enum-known-call
 enum-known-call c = search needs

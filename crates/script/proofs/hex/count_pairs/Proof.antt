@@ -6,9 +6,9 @@ use native.Mathlib.Omega.{arith}
 use native.Mathlib.Nat.{add-zero}
 use lib.ListN.{length, drop, drop-of-length-le}
 use borrow.Author.Tests.{not-true, not-false}
-use Rattle.script.specs.declared.hex.Pairs.{Pairs}
+use Rattle.script.specs.declared.numbers.Counted.{Counted}
 use Rattle.script.specs.Script.{hexBytes}
-use Rattle.script.specs.ContractsOfSteps.{pairsOn}
+use Rattle.script.specs.ContractsOfSteps.{countedOn}
 use Rattle.script.proofs.Blanks.{Starts, starts}
 use Rattle.script.proofs.Pairing.{hex-skip, pair-none, Paired, pair-first, count-next}
 use Rattle.script.proofs.hex.count_pairs.Statement.{statement}
@@ -16,7 +16,7 @@ use Rattle.script.proofs.hex.count_pairs.Tie as tie
 
 abbrev Inv-loop : tie.InvT-loop
 Inv-loop text n₀ at₀ n at =
-    (at ≤ length text) × (n ≤ at) × Starts (drop at text) × (pairsOn n (hexBytes (drop at text)) ≡ pairsOn 0 (hexBytes text))
+    (at ≤ length text) × (n ≤ at) × Starts (drop at text) × (countedOn n (hexBytes (drop at text)) ≡ countedOn 0 (hexBytes text))
 
 abbrev μ-loop : tie.MeasureT-loop
 μ-loop text n₀ at₀ n at = length text - at
@@ -40,7 +40,7 @@ loop-holds c =
       start .ensures .2,
       omega arith,
       starts text text (start .result) (start .ensures .0),
-      ap (pairsOn 0) (ap hexBytes (start .ensures .0) ∙ hex-skip text),
+      ap (countedOn 0) (ap hexBytes (start .ensures .0) ∙ hex-skip text),
     )
 
 is-pair-requires : tie.Need-is-pair-requires Inv-loop μ-loop
@@ -74,7 +74,7 @@ loop-again c =
       next .ensures .2,
       omega (arith, next .ensures .1),
       starts text _ (next .result) (next .ensures .0),
-      rw rest (sym (count-next (l .n) _ (hexBytes (drop (l .at + 2) text))) ∙ ap (pairsOn (l .n)) (sym (pair (c .before) .1)) ∙ l .inv .3),
+      rw rest (sym (count-next (l .n) _ (hexBytes (drop (l .at + 2) text))) ∙ ap (countedOn (l .n)) (sym (pair (c .before) .1)) ∙ l .inv .3),
     )
 
 returns-2 : tie.Need-returns-2 Inv-loop μ-loop
@@ -82,7 +82,7 @@ unfolding hexBytes
 returns-2 c =
     let text = c .before .before .before .before .args .text .now in
     let l = c .before .loop in
-    rw (← l .inv .3, drop-of-length-le text {i = l .at} (c .loop-test .left)) (ap Pairs.Bytes (sym (add-zero (l .n))))
+    rw (← l .inv .3, drop-of-length-le text {i = l .at} (c .loop-test .left)) (ap Counted.Are (sym (add-zero (l .n))))
 
 pub count-pairs-spec : {M : Type 1} → statement M
 count-pairs-spec =

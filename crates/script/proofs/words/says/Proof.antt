@@ -1,8 +1,8 @@
--- `script::line::says` meets its contract: `same` says whether two texts are equal.
+-- `script::words::says` meets its contract: `same` says whether two texts are equal.
 use Rattle.script.proofs.Naming.{is-same}
 use borrow.Author.Needs.{needs}
-use Rattle.script.proofs.line.says.Statement.{statement}
-use Rattle.script.proofs.line.says.Tie as tie
+use Rattle.script.proofs.words.says.Statement.{statement}
+use Rattle.script.proofs.words.says.Tie as tie
 
 same-requires : tie.Need-same-requires
 same-requires c κs = search needs
