@@ -338,38 +338,54 @@ fn measure_load(number: u64, code: &Code, random: &mut Random) {
     expect("the bytes after the loads", buffer, plain.bytes());
 }
 
-/// Puts one by one and the same puts in lists, made by both on the bytes of all slots: the time for a slot, in the fastest of many rounds, so that
-/// the ways can be compared with each other. Each has to leave the same bytes.
+/// A way to put all slots of a trace, and the time that its fastest round took for a slot: of the library and of the plain implementation.
+struct Way<'a> {
+    call: String,
+    library: Box<dyn Fn(&mut [u8]) + 'a>,
+    plain: Box<dyn Fn(&mut [u8]) + 'a>,
+    nanoseconds: [f64; 2],
+}
+
+/// Puts one by one and the same puts in lists, made by both on the bytes of all slots. Every way has its turn in each of many rounds, and its
+/// fastest one counts, so that the ways can be compared with each other. Each has to leave the same bytes.
 fn measure_puts(number: u64, code: &Code, random: &mut Random) {
     const SLOTS: usize = library::MAX_SLOTS as usize;
     const ROUNDS: usize = 250;
-    let steps: Vec<u64> = (0..SLOTS).map(|_| random.below(code.steps())).collect();
-    let readings: Vec<u64> = (0..SLOTS).map(|_| random.below(4096)).collect();
-    let lists = |count| (0..).step_by(count).zip(steps.chunks(count).zip(readings.chunks(count)));
-    let row = |call: &str, of_library: &dyn Fn(&mut [u8]), of_plain: &dyn Fn(&mut [u8])| {
-        let mut buffer = vec![0; library::size(library::MAX_SLOTS)];
-        library::make(&mut buffer, number, library::MAX_SLOTS).expect("a buffer with room");
-        let mut plain = buffer.clone();
-        let (mut library_round, mut plain_round) = (f64::INFINITY, f64::INFINITY);
-        for _ in 0..ROUNDS {
-            library_round = library_round.min(nanoseconds(1, |_| of_library(&mut buffer)));
-            plain_round = plain_round.min(nanoseconds(1, |_| of_plain(&mut plain)));
-        }
-        expect(&format!("the bytes after {call}"), buffer, plain);
-        print_row(number, call, library_round / SLOTS as f64, plain_round / SLOTS as f64);
-    };
-
-    row(
-        "put",
-        &|b| (0..SLOTS).for_each(|i| library::put(b, i as u64, steps[i], readings[i]).expect("a fit put")),
-        &|b| (0..SLOTS).for_each(|i| trace::put(number, code, b, i as u64, steps[i], readings[i]).expect("a fit put")),
-    );
+    let steps: &[u64] = &(0..SLOTS).map(|_| random.below(code.steps())).collect::<Vec<_>>();
+    let readings: &[u64] = &(0..SLOTS).map(|_| random.below(4096)).collect::<Vec<_>>();
+    let lists = move |count| (0..).step_by(count).zip(steps.chunks(count).zip(readings.chunks(count)));
+    let mut ways = vec![Way {
+        call: "put".to_string(),
+        library: Box::new(move |b| (0..SLOTS).for_each(|i| library::put(b, i as u64, steps[i], readings[i]).expect("a fit put"))),
+        plain: Box::new(move |b| (0..SLOTS).for_each(|i| trace::put(number, code, b, i as u64, steps[i], readings[i]).expect("a fit put"))),
+        nanoseconds: [f64::INFINITY; 2],
+    }];
     for count in [1, 25, SLOTS] {
-        row(
-            &format!("puts {count}"),
-            &|b| lists(count).for_each(|(start, (steps, readings))| library::put_list(b, start, steps, readings).expect("fit lists")),
-            &|b| lists(count).for_each(|(start, (steps, readings))| trace::put_list(number, code, b, start, steps, readings).expect("fit lists")),
-        );
+        ways.push(Way {
+            call: format!("puts {count}"),
+            library: Box::new(move |b| {
+                lists(count).for_each(|(start, (steps, readings))| library::put_list(b, start, steps, readings).expect("fit lists"))
+            }),
+            plain: Box::new(move |b| {
+                lists(count).for_each(|(start, (steps, readings))| trace::put_list(number, code, b, start, steps, readings).expect("fit lists"))
+            }),
+            nanoseconds: [f64::INFINITY; 2],
+        });
+    }
+
+    let mut made = vec![0; library::size(library::MAX_SLOTS)];
+    library::make(&mut made, number, library::MAX_SLOTS).expect("a buffer with room");
+    for _ in 0..ROUNDS {
+        for way in &mut ways {
+            let (mut buffer, mut plain) = (made.clone(), made.clone());
+            let library_round = nanoseconds(1, |_| (way.library)(&mut buffer)) / SLOTS as f64;
+            let plain_round = nanoseconds(1, |_| (way.plain)(&mut plain)) / SLOTS as f64;
+            way.nanoseconds = [way.nanoseconds[0].min(library_round), way.nanoseconds[1].min(plain_round)];
+            expect(&format!("the bytes after {}", way.call), buffer, plain);
+        }
+    }
+    for way in &ways {
+        print_row(number, &way.call, way.nanoseconds[0], way.nanoseconds[1]);
     }
 }
 
@@ -403,7 +419,7 @@ fn main() {
     for (kind, answers) in &coverage {
         println!("{kind:15} {:6}: {answers:?}", answers.values().sum::<u64>());
     }
-    println!("buffers are not cleared between measurements");
+    println!("buffers are not cleared between measurements, but for the puts: they begin with blank slots");
     println!("put, and puts in lists of so many: for a slot, in the fastest round; all others: the mean");
     println!("code  call      library ns   plain ns    ratio");
     for (number, code) in &codes {

@@ -142,7 +142,7 @@ static void check_put_list(struct code code)
     EXPECT(out[MIZBULETT_READ_READING], 7);
 }
 
-/* What a list of puts refuses, in order: each call also meets all that is refused behind it. No byte changes. */
+/* What a list of puts refuses, in order: each call but the empty one also meets what is refused behind it. No byte changes. */
 static void check_put_list_refused(struct code code)
 {
     enum { SLOTS = 2 };

@@ -42,7 +42,7 @@ def declared(library, name, *kinds, values=0):
 
     def on_bytes(trace, *arguments):
         buf = (ctypes.c_uint8 * len(trace)).from_buffer(trace)
-        given = [value for kind, argument in zip(kinds, arguments, strict=True) for value in passed(kind, argument)]
+        given = [value for kind, argument in zip(kinds, arguments) for value in passed(kind, argument)]
         if values == 0:
             return call(buf, len(trace), *given)
         out = (NUMBER * values)()

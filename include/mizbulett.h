@@ -24,7 +24,8 @@
  *   - `buf`, `out`, `steps` and `readings` are not NULL, not even where they are empty;
  *   - `buf` has `len` bytes, `out` has as many numbers as its declaration says, `steps` has `step_count` and `readings` has
  *     `reading_count`, and none of them has more than PTRDIFF_MAX bytes;
- *   - `out`, `steps` and `readings` do not overlap `buf` and are aligned for uint64_t; `steps` and `readings` may be the same list;
+ *   - `out`, `steps` and `readings` do not overlap `buf` and are aligned for uint64_t; `steps` and `readings` may be the
+ *     same list, or overlap each other;
  *   - nobody else writes `buf` or `out`, nor reads what is written, nor writes `steps` or `readings`, while the call runs.
  * Nothing is kept between calls. Calls on different buffers may run at the same time.
  *
@@ -45,7 +46,7 @@
 #include <stddef.h>
 #include <stdint.h>
 
-/* Raised whenever a call's numbers or values change; docs/CHANGES.md says which. Neither the linker nor a call compares it: a caller
+/* Raised whenever a call is added, or a call's numbers or values change; docs/CHANGES.md says which. Neither the linker nor a call compares it: a caller
  * that was compiled with another version's header, or declares the calls by hand, as from Python, may lend too short an `out`,
  * which is then overrun, and take one value for another. Compile every caller anew. */
 #define MIZBULETT_VERSION 4

@@ -20,8 +20,6 @@ pub record RowsMean : Type 0 where
   pub lists : (start : ℕ) (steps readings more : List ℕ)
       → callsOf (7 ∷ (2 + length steps + length readings) ∷ start ∷ length steps ∷ steps ++ (readings ++ more))
       ≡ putList start steps readings ∷ callsOf more
-  pub emptyList : callsOf (7 ∷ 2 ∷ 10 ∷ 0 ∷ []) ≡ putList 10 [] [] ∷ []
-  pub moreSteps : callsOf (7 ∷ 5 ∷ 10 ∷ 2 ∷ 74 ∷ 75 ∷ 2385 ∷ []) ≡ putList 10 (74 ∷ 75 ∷ []) (2385 ∷ []) ∷ []
   pub several : callsOf (4 ∷ 1 ∷ 7 ∷ 6 ∷ 3 ∷ 7 ∷ 1 ∷ 36 ∷ 5 ∷ 0 ∷ []) ≡ read 7 ∷ load 7 1 36 ∷ survey ∷ []
   pub among : callsOf (3 ∷ 1 ∷ 7 ∷ 7 ∷ 4 ∷ 10 ∷ 1 ∷ 74 ∷ 2385 ∷ 7 ∷ 2 ∷ 11 ∷ 0 ∷ 4 ∷ 1 ∷ 10 ∷ [])
       ≡ clear 7 ∷ putList 10 (74 ∷ []) (2385 ∷ []) ∷ putList 11 [] [] ∷ read 10 ∷ []

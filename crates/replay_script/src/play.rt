@@ -75,7 +75,7 @@ fn play_puts(start: u64, steps: usize, readings: usize, numbers: &[u64; NUMBERS]
 fn play_list(line: &[u8], number: u64, b: &mut [u8]) {
     let mut numbers = [0u64; NUMBERS];
     let Lists::Taken(start, steps, readings) = take_lists(line, &mut numbers) else {
-        print_trouble(number, Trouble::Unreadable, b"more than 100000 numbers");
+        print_unreadable(line, number);
         return;
     };
     play_puts(start, steps, readings, &numbers, b);

@@ -6,6 +6,7 @@ use Rattle.script.specs.Lending.{lineLends, lendIn}
 use Rattle.script.specs.Lists.{linePuts, takeIn}
 use Rattle.script.specs.Claims.{LinesMean, LinesLend, LinesPut}
 pub use Rattle.script.proofs.Holds.{lines-held}
+pub use Rattle.script.proofs.Commas.{lists-read}
 pub use Rattle.script.proofs.Sizes.{lists-fit}
 pub use Rattle.script.proofs.Calls.{calls-answer}
 
@@ -70,4 +71,4 @@ pub lines-put : LinesPut
 unfolding
     isBlank skipBlanks trimEnd withoutReturn bare upTo behind pieces words is digitOn numbersOn isComma numbersOf numberList
     hexValue hexBytes chosen spoken meaning argument linePuts takeIn
-lines-put = record { puts = refl; empty = refl; uneven = refl; largest = refl; put = refl; front = refl; fits = refl; tooMany = refl; nothing = refl }
+lines-put = record { puts = refl; several = refl; empty = refl; uneven = refl; largest = refl; put = refl; front = refl; fits = refl; tooMany = refl; nothing = refl }

@@ -1,7 +1,7 @@
 -- What is claimed of a script's lines and calls. Each claim is a theorem of the same name, in lower case, in proofs/Claims.
 use mathlib.Core.Path.{_≡_}
 use mathlib.Core.Bool.{true, false}
-use mathlib.Core.List.{List, [], _∷_, map}
+use mathlib.Core.List.{List, [], _∷_, _++_, map}
 use mathlib.Core.Option.{none, some}
 use Prim.Native.Nat.{ℕ, _<_, _≤_}
 use Prim.Native.String.{String}
@@ -13,7 +13,8 @@ use Rattle.script.specs.declared.line.Command.{Command}
 use Rattle.script.specs.declared.lending.Lent.{Lent}
 use Rattle.script.specs.declared.lists.Lists.{Lists}
 use Rattle.script.specs.Held.{isWhole, Holding, holding, holdAll}
-use Rattle.script.specs.Script.{text, PutList, hexValue, meaning, argument}
+use Rattle.script.specs.declared.numbers.Number.{Number}
+use Rattle.script.specs.Script.{text, numberOf, numberList, PutList, hexValue, meaning, argument}
 use Rattle.script.specs.Lending.{zeros, lineLends, lending, over, lendIn}
 use Rattle.script.specs.Lists.{linePuts, bothLists, taking, taken, takeIn}
 use Rattle.script.specs.Answering.{Answered, answered, answeredList}
@@ -87,6 +88,8 @@ putsFrom start steps readings = record { start = start; steps = steps; readings 
 -- which list of puts they ask for, and what lists make of a buffer of numbers
 pub record LinesPut : Type 0 where
   pub puts : linePuts (text "puts 1 7,8 100,200") ≡ some (putsFrom 1 (7 ∷ 8 ∷ []) (100 ∷ 200 ∷ []))
+  pub several : linePuts (text "puts 3990 127,0,64,1 1310,4095,0,7,1024")
+      ≡ some (putsFrom 3990 (127 ∷ 0 ∷ 64 ∷ 1 ∷ []) (1310 ∷ 4095 ∷ 0 ∷ 7 ∷ 1024 ∷ []))
   pub empty : linePuts (text "puts 0 - -") ≡ some (putsFrom 0 [] [])
   pub uneven : linePuts (text " puts\t2  - 1 \r") ≡ some (putsFrom 2 [] (1 ∷ []))
   pub largest : linePuts (text "puts 18446744073709551615 007,18446744073709551615 0")
@@ -96,6 +99,23 @@ pub record LinesPut : Type 0 where
   pub fits : takeIn (some (putsFrom 3 (4 ∷ []) (5 ∷ 6 ∷ []))) (7 ∷ 8 ∷ 9 ∷ []) ≡ taking (Lists.Taken 3 1 2) (4 ∷ 5 ∷ 6 ∷ [])
   pub tooMany : takeIn (some (putsFrom 3 (4 ∷ []) (5 ∷ 6 ∷ []))) (7 ∷ 8 ∷ []) ≡ taking Lists.TooMany (7 ∷ 8 ∷ [])
   pub nothing : takeIn none (7 ∷ 8 ∷ []) ≡ taking Lists.Nothing (7 ∷ 8 ∷ [])
+
+-- words with a comma between any two
+unfoldable pub joined : List (List ℕ) → List ℕ
+joined [] = []
+joined (w ∷ []) = w
+joined (w ∷ (v ∷ ws)) = w ++ (44 ∷ joined (v ∷ ws))
+
+-- the words are numbers, one for each
+abbrev pub AreNumbers : List (List ℕ) → List ℕ → Type 0
+AreNumbers [] [] = Unit {0}
+AreNumbers [] (n ∷ ns) = ⊥
+AreNumbers (w ∷ ws) [] = ⊥
+AreNumbers (w ∷ ws) (n ∷ ns) = (numberOf w ≡ Number.Is n) × AreNumbers ws ns
+
+-- a list may be of any length: numbers with a comma between any two are read, all of them, in order
+abbrev pub ListsRead : Type 0
+ListsRead = (ws : List (List ℕ)) (n : ℕ) (ns : List ℕ) → AreNumbers ws (n ∷ ns) → numberList (joined ws) ≡ some (n ∷ ns)
 
 -- a buffer of 100,000 numbers has room for every list of puts of a line of at most 200,000 bytes
 abbrev pub ListsFit : Type 0

@@ -8,6 +8,7 @@ mod line;
 mod lists;
 mod numbers;
 mod parts;
+mod taking;
 mod words;
 
 pub use answering::answer;
@@ -22,8 +23,8 @@ pub use line::Call;
 pub use line::Command;
 pub use line::parse_line;
 pub use lists::Lists;
-pub use lists::NUMBERS;
-pub use lists::take_lists;
 pub use parts::Part;
 pub use parts::argument;
 pub use parts::bare;
+pub use taking::NUMBERS;
+pub use taking::take_lists;

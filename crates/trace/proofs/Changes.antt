@@ -29,7 +29,7 @@ use Rattle.trace.specs.Refusals.{noSlot}
 use Rattle.trace.specs.Rules.{bitRows, loadRows, refusals, gives, putAll}
 use Rattle.trace.specs.Trace.{projectionIn, slotRowsIn, viewIn, trailerRows, refusalsIn, contentAt, stored, putIn, onBytes}
 use Rattle.trace.specs.ContractsOfSteps.{OpenedAs, FoundAt, callOf, doneOf, answerOf, Unnumbered, SlotIn, ChangedTo, Changing, BitIn}
-use Rattle.trace.specs.ContractsOfSteps.{listRowsOf, ListFit}
+use Rattle.trace.specs.ContractsOfSteps.{listRowsOf}
 use Rattle.trace.specs.ContractsOfLoad.{LoadOf}
 use Rattle.codes.proofs.Rows.{unless-passes, unless-refuses, passes-append, refuses-front, refuses-behind}
 use Rattle.trace.proofs.Views.{view-code, view-count}
@@ -207,8 +207,8 @@ module _ (b : List ℕ) (start : ℕ) (steps readings : List ℕ) where
         let own : Refuses (refusals call (viewIn b)) (refusalNumber r) = rw (view-count b, view-code b, ← o .slots, ← o .code) e in
         list-refused-by r (refuses-behind (trailerRows b) (refusals call (viewIn b)) _ (o .passes) own)
 
-    pub list-accepted : ListFit h start steps readings → after (accepted []) (putAll putIn start steps readings b) ≡ onBytes call b
+    pub list-accepted : Passes (listRowsOf h start steps readings) → after (accepted []) (putAll putIn start steps readings b) ≡ onBytes call b
     unfolding onBytes
     list-accepted fit =
-        let own : Passes (refusals call (viewIn b)) = rw (view-count b, view-code b, ← o .slots, ← o .code) (fit .passes) in
+        let own : Passes (refusals call (viewIn b)) = rw (view-count b, view-code b, ← o .slots, ← o .code) fit in
         rw (unless-passes {A = List ℕ} (refusalsIn call b) (accepted []) (passes-append (trailerRows b) (refusals call (viewIn b)) (o .passes) own))

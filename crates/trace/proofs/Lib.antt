@@ -17,14 +17,14 @@ mod PickLaws
 mod PutLists
 -- What an answer leaves.
 mod Outcomes
--- The steps of a call: what it sees of a buffer, how it comes to its slot, what the slot holds, what it takes from the word calls, a change, which
--- keeps the trailer.
+-- The steps of a call: what it sees of a buffer, how it comes to its slot, what the slot holds, what it takes from the word calls, a trailer that
+-- stays, a change.
 mod Views
 mod Finding
 mod Contents
 mod Words
-mod Changes
 mod TrailerKept
+mod Changes
 mod Readings
 -- The survey: a slot's status, tallies of answers, what a survey of any buffer counts.
 mod Statuses

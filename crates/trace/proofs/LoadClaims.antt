@@ -2,7 +2,7 @@
 -- which is written again; so the flips of a load's positions store what the load stores. The same flips again undo it, as exclusive or does. On the
 -- bytes of a trace in use it is so by demand 3. Its table of refusals is a flip's but for the last row, so 7 to 11 are met alike.
 use Prim.Native.Nat.{ℕ, zero, suc, _<_, _≤_}
-use mathlib.Core.Path.{_≡_, refl, sym, ap, _∙_}
+use mathlib.Core.Path.{_≡_, refl, ap}
 use mathlib.Core.Bool.{false}
 use mathlib.Core.Logic.{_↔_}
 use mathlib.Core.List.{List, [], _∷_, _++_, map}
@@ -16,7 +16,7 @@ use Rattle.codes.specs.Claims.{Among}
 use Rattle.codes.proofs.Rows.{front-decides}
 use Rattle.trace.specs.Lists.{inTurn}
 use Rattle.trace.specs.Load.{positionsOf, handedBack}
-use Rattle.trace.specs.Calls.{Call, flip, load, after, run}
+use Rattle.trace.specs.Calls.{flip, load, after, run}
 use Rattle.trace.specs.Refusals.{badSlot, holdsNothing, blankSlot, noPosition, tooMany}
 use Rattle.trace.specs.Plain.{Slot, Plain, projectionOf, slotOf, withSlot, holds, viewOf, bytes, fresh, flipped, onPlain}
 use Rattle.trace.specs.View.{contentOf}

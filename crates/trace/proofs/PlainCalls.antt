@@ -1,9 +1,10 @@
 -- What calls make of the plain trace. An accepted call leaves what its definition says, with another slot in the place of its own, which its rows say is
 -- there; a refused one leaves the trace. So a message that was put stays in its slot through any list of calls of which none overwrites
 -- it: by induction on the list, each call leaves the slot, or changes its F or M.
-use Prim.Native.Nat.{ℕ, zero, suc, _+_, _*_, _<_, _≤_}
+use Prim.Native.Nat.{ℕ, zero, suc, _+_, _-_, _*_, _<_, _≤_}
 use mathlib.Core.Path.{_≡_, refl, sym, ap, _∙_}
 use mathlib.Core.Bool.{Bool, true, false}
+use mathlib.Core.Logic.{inl, inr}
 use mathlib.Core.List.{List, [], _∷_}
 use native.Mathlib.Nat.{add-zero, add-suc, suc-add}
 use native.Mathlib.Omega.{arith}
@@ -217,10 +218,13 @@ module _ (slot m : ℕ) where
   accepted-has : (c : Call) (p : Plain) (vs : List ℕ) → onPlain c p .answer ≡ accepted vs → (Overwrites slot c → ⊥) → Has p slot m → Has (onPlain c p .state) slot m
   unfolding Has
   accepted-has (put other step reading) p vs e stays h =
-      by-slot p _ other _ (accepted-leaves (put other step reading) p vs e .1) h (λ same. absurd (stays (sym same)))
+      by-slot p _ other _ (accepted-leaves (put other step reading) p vs e .1) h (λ same. absurd (stays (inl (step, reading, (sym same, refl, refl)))))
   accepted-has (putList start steps readings) p vs e stays h =
-      (h .0, h .1, put-lists p start steps readings vs e .others slot stays ∙ h .2)
-  accepted-has (clear other) p vs e stays h = by-slot p _ other _ (accepted-leaves (clear other) p vs e .1) h (λ same. absurd (stays (sym same)))
+      let named : (start ≤ slot) × (slot < start + length steps) → ⊥ =
+      λ k. stays (inl (_, _, (slot - start, omega arith, omega arith, refl, refl))) in
+      (h .0, h .1, put-lists p start steps readings vs e .others slot named ∙ h .2)
+  accepted-has (clear other) p vs e stays h =
+      by-slot p _ other _ (accepted-leaves (clear other) p vs e .1) h (λ same. absurd (stays (inr (ap clear (sym same)))))
   accepted-has (flip other position) p vs e stays h =
       by-slot p _ other _ (accepted-leaves (flip other position) p vs e .1) h
       (λ same. let b = flips p other position m (h .0) (h .1) (rw (← same) (h .2)) vs e in (b .0, h .1, rw same (b .2 .own)))

@@ -7,7 +7,7 @@ use mathlib.Core.List.{List, [], _∷_, _++_, map}
 use Prim.Native.Nat.{ℕ, zero, suc, _+_, _-_, _*_, _^_, _<_, _≤_}
 use lib.Bits.{bitXor}
 use lib.ListN.{length, getD, replicate}
-use Rattle.codes.specs.Answer.{Answer, accepted, refused, mapAnswer, Row}
+use Rattle.codes.specs.Answer.{Answer, accepted, refused, mapAnswer, Row, Passes, Refuses}
 use Rattle.codes.specs.Projection.{Projection, width}
 use Rattle.codes.specs.Word.{word, bitAt}
 use Rattle.codes.specs.Message.{encode}
@@ -29,7 +29,7 @@ use Rattle.trace.specs.Refusals.{isCount, wrongCount, tooShort, trailerU
 use Rattle.trace.specs.Refusals.{noPosition, tooLarge, tooMany, pastEnd, uneven, oneTooLarge}
 use Rattle.trace.specs.View.{contentOf, readingOf}
 use Rattle.trace.specs.Survey.{statusOf, count, pressures, total, extremes}
-use Rattle.trace.specs.Trace.{contentWith, projectionIn, viewIn, short, refusalsIn, stored, onBytes, makeRows, make, aloneIn, surveyIn}
+use Rattle.trace.specs.Trace.{contentWith, projectionIn, viewIn, short, trailerRows, refusalsIn, stored, onBytes, makeRows, make, aloneIn, surveyIn}
 use Rattle.trace.specs.Plain.{Slot, Plain, projectionOf, slotOf, bytes, fresh, marked, onPlain}
 
 -- ---- demand 1
@@ -283,22 +283,6 @@ pub record PlainCalls : Type 0 where
   pub surveys : (p : Plain) → onPlain survey p .state ≡ p
   pub refusals : (c : Call) (p : Plain) (n : ℕ) → onPlain c p .answer ≡ refused n → onPlain c p .state ≡ p
 
--- a call that puts into a slot, by itself or in a list, or clears it
-abbrev pub Overwrites : ℕ → Call → Type 0
-Overwrites slot (put other step reading) = other ≡ slot
-Overwrites slot (putList start steps readings) = (start ≤ slot) × (slot < start + length steps)
-Overwrites slot (clear other) = other ≡ slot
-Overwrites slot (flip other position) = ⊥
-Overwrites slot (mark other position) = ⊥
-Overwrites slot (load other seed k) = ⊥
-Overwrites slot (read other) = ⊥
-Overwrites slot survey = ⊥
-
--- of a list of calls, those that would overwrite a slot are refused
-abbrev pub Kept : ℕ → List Call → Plain → Type 0
-Kept slot [] p = Unit {0}
-Kept slot (c ∷ cs) p = (Overwrites slot c → (n : ℕ) × (onPlain c p .answer ≡ refused n)) × Kept slot cs (onPlain c p .state)
-
 -- a call that puts a step and a reading into a slot, by itself or in a list
 abbrev pub Puts : ℕ → ℕ → ℕ → Call → Type 0
 Puts slot step reading (put other step′ reading′) = (other ≡ slot) × (step′ ≡ step) × (reading′ ≡ reading)
@@ -310,6 +294,15 @@ Puts slot step reading (load other seed k) = ⊥
 Puts slot step reading (clear other) = ⊥
 Puts slot step reading (read other) = ⊥
 Puts slot step reading survey = ⊥
+
+-- a call that puts into a slot, or clears it
+abbrev pub Overwrites : ℕ → Call → Type 0
+Overwrites slot c = ((step : ℕ) × (reading : ℕ) × Puts slot step reading c) ⊎ (c ≡ clear slot)
+
+-- of a list of calls, those that would overwrite a slot are refused
+abbrev pub Kept : ℕ → List Call → Plain → Type 0
+Kept slot [] p = Unit {0}
+Kept slot (c ∷ cs) p = (Overwrites slot c → (n : ℕ) × (onPlain c p .answer ≡ refused n)) × Kept slot cs (onPlain c p .state)
 
 -- 'the step and reading last put there': a slot has them where a call that puts them was accepted, and no call behind it overwrote the slot
 abbrev pub LastPut : Type 0
@@ -391,23 +384,29 @@ pub record PutsArePuts : Type 0 where
   pub bytes : (b : List ℕ) (start : ℕ) (steps readings : List ℕ) → CountsAsPuts onBytes b start steps readings
   pub plain : (p : Plain) (start : ℕ) (steps readings : List ℕ) → CountsAsPuts onPlain p start steps readings
 
--- what the lists meet where the start slot exists in a buffer of n slots; 7, 8 and 9 are met as by a clear of that slot
-pub record ListMeets (π : Projection) (n start : ℕ) (steps readings : List ℕ) (Exists : Type 0) (a : Answer (List ℕ)) : Type 0 where
+-- a slot exists: the trailer is fit, and the slot is below its N
+abbrev pub Exists : List ℕ → ℕ → Type 0
+Exists b slot = Passes (trailerRows b) × (slot < countIn b)
+
+-- when a list of puts is refused, whatever the buffer holds
+pub record ListMeets (b : List ℕ) (start : ℕ) (steps readings : List ℕ) (a : Answer (List ℕ)) : Type 0 where
+  -- 7 and 8 as any call on that buffer
+  pub trailer : (n : ℕ) → Among n (7 ∷ 8 ∷ []) → (a ≡ refused n ↔ Refuses (trailerRows b) n)
+  -- 9: 'slot N or more', of the start slot
+  pub no-slot : a ≡ refused 9 ↔ Passes (trailerRows b) × (countIn b ≤ start)
   -- '15 when start plus the number of steps passes N, after 9'
-  pub past-end : a ≡ refused 15 ↔ Exists × (n < start + length steps)
+  pub past-end : a ≡ refused 15 ↔ Exists b start × (countIn b < start + length steps)
   -- '16 when the lists differ in length, after 15'
-  pub uneven : a ≡ refused 16 ↔ Exists × (start + length steps ≤ n) × (length steps ≡ length readings → ⊥)
+  pub uneven : a ≡ refused 16 ↔ Exists b start × (start + length steps ≤ countIn b) × (length steps ≡ length readings → ⊥)
   -- '13 stays last of these'
-  pub too-large : a ≡ refused 13 ↔ Exists × (start + length steps ≤ n) × (length steps ≡ length readings) × SomeTooLarge π steps readings
+  pub too-large : a ≡ refused 13
+      ↔ Exists b start × (start + length steps ≤ countIn b) × (length steps ≡ length readings) × SomeTooLarge (projectionIn b) steps readings
 
 pub record PutListMeets : Type 0 where
-  pub slot : (b : List ℕ) (start : ℕ) (steps readings : List ℕ) (n : ℕ) → Among n (7 ∷ 8 ∷ 9 ∷ [])
-      → (onBytes (putList start steps readings) b .answer ≡ refused n ↔ onBytes (clear start) b .answer ≡ refused n)
   pub lists : (b : List ℕ) (start : ℕ) (steps readings : List ℕ)
-      → ListMeets (projectionIn b) (countIn b) start steps readings (onBytes (clear start) b .answer ≡ accepted [])
-      (onBytes (putList start steps readings) b .answer)
+      → ListMeets b start steps readings (onBytes (putList start steps readings) b .answer)
   -- 'Empty lists are accepted if the start slot exists'
-  pub empty : (b : List ℕ) (start : ℕ) → onBytes (clear start) b .answer ≡ accepted [] → onBytes (putList start [] []) b ≡ after (accepted []) b
+  pub empty : (b : List ℕ) (start : ℕ) → Exists b start → onBytes (putList start [] []) b ≡ after (accepted []) b
 
 -- ---- the survey
 

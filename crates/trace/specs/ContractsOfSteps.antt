@@ -8,7 +8,7 @@ use Rattle.codes.specs.declared.code.Code.{Code}
 use Rattle.codes.specs.declared.answer.Corrected.{Corrected}
 use Rattle.codes.specs.Answer.{Answer, accepted, Row, Passes, Refuses}
 use Rattle.codes.specs.Projection.{Projection, width}
-use Rattle.codes.specs.Codes.{projection, codeOf, stepLimit}
+use Rattle.codes.specs.Codes.{projection, codeOf}
 use Rattle.codes.specs.Word.{bit}
 use Rattle.trace.specs.declared.answer.Reading.{Reading}
 use Rattle.trace.specs.declared.answer.Counts.{Counts}
@@ -27,7 +27,6 @@ use Rattle.trace.specs.declared.change.BitFound.{BitFound}
 use Rattle.trace.specs.declared.change.Change.{Change}
 use Rattle.trace.specs.declared.change.Changed.{Changed}
 use Rattle.trace.specs.declared.tally.Tally.{Tally}
-use Rattle.trace.specs.Lists.{reaches}
 use Rattle.trace.specs.Layout.{stateSize, wordSize, distanceOf, neededFor, startIn, countIn, codeIn, placeIn}
 use Rattle.trace.specs.Calls.{Call, put, flip, mark, load, clear}
 use Rattle.trace.specs.View.{View, countOf, contentOf}
@@ -160,16 +159,8 @@ FindingBit π c position (BitFound.Refused r) = Refuses (bitRows π c position) 
 abbrev pub listRowsOf : Header → ℕ → List ℕ → List ℕ → List Row
 listRowsOf h start steps readings = listRows (projection (h .code)) (h .slots) start steps readings
 
--- lists that fit the slots from a start on: each step has a slot and a reading, and none is too large
-pub record ListFit (h : Header) (start : ℕ) (steps readings : List ℕ) : Type 0 where
-  pub passes : Passes (listRowsOf h start steps readings)
-  pub inside : start + length steps ≤ h .slots
-  pub even : length steps ≡ length readings
-  pub small-steps : reaches (stepLimit (projection (h .code))) steps ≡ false
-  pub small-readings : reaches 4096 readings ≡ false
-
 abbrev pub Fitted : Header → ℕ → List ℕ → List ℕ → Done → Type 0
-Fitted h start steps readings Done.Accepted = ListFit h start steps readings
+Fitted h start steps readings Done.Accepted = Passes (listRowsOf h start steps readings)
 Fitted h start steps readings (Done.Refused r) = Refuses (listRowsOf h start steps readings) (refusalNumber r)
 
 -- ---- the survey

@@ -10,11 +10,8 @@ take-lists-requires c κs = search needs
 enum-known-start : tie.Need-enum-known-start
 enum-known-start c = search needs
 
-slice-aggregate-print-trouble : tie.Need-slice-aggregate-print-trouble
-slice-aggregate-print-trouble c = search needs
-
-print-trouble-requires : tie.Need-print-trouble-requires
-print-trouble-requires c κs = search needs
+print-unreadable-requires : tie.Need-print-unreadable-requires
+print-unreadable-requires c κs = search needs
 
 returns : tie.Need-returns
 returns c = search needs
@@ -37,8 +34,7 @@ play-list-spec =
     (tie.spec
     take-lists-requires
     enum-known-start
-    slice-aggregate-print-trouble
-    print-trouble-requires
+    print-unreadable-requires
     returns
     play-puts-requires
     same-length
