@@ -7,7 +7,9 @@ use mathlib.Core.List.{List, [], _∷_, _++_, append-assoc, append-nil}
 use native.Mathlib.Nat.{mul-zero, mul-suc}
 use native.Mathlib.Omega.{arith}
 use lib.ListN.{length, getD, set, length-append}
-use Rattle.trace.specs.Layout.{stateSize, wordSize, slotSize, distanceOf, part, overwrite, SlotBytes, each, whole, body, placeFrom, storeAt}
+use Rattle.trace.specs.declared.slot.Content.{Content}
+use Rattle.trace.specs.Layout.{stateSize, wordSize, slotSize, distanceOf, part, overwrite, SlotBytes, contentBytes, each, whole, body, placeFrom, storeAt}
+use Rattle.trace.proofs.Numbers.{length-bytes}
 use Rattle.trace.proofs.Parts.{overwrite-middle, overwrite-join, part-middle}
 
 -- ---- some bytes of each slot, one slot after the other
@@ -52,6 +54,12 @@ pub record Sized (s : SlotBytes) : Type 0 where
   pub state : length (s .state) ≡ stateSize
   pub word : length (s .word) ≡ wordSize
   pub marks : length (s .marks) ≡ wordSize
+
+-- what every content stores has a slot's size
+pub content-sized : (c : Content) → Sized (contentBytes c)
+content-sized Content.Blank = record { state = length-bytes 1 0; word = length-bytes 5 0; marks = length-bytes 5 0 }
+content-sized Content.Bad = record { state = length-bytes 1 2; word = length-bytes 5 0; marks = length-bytes 5 0 }
+content-sized (Content.Written w m) = record { state = length-bytes 1 1; word = length-bytes 5 w; marks = length-bytes 5 m }
 
 abbrev pub AllSized : List SlotBytes → Type 0
 AllSized [] = Unit {0}

@@ -22,8 +22,8 @@ use Rattle.trace.specs.Layout.{trailer, trailerAt, distanceIn, countIn, 
 use Rattle.trace.specs.Refusals.{isCount, isFit, isBad}
 use Rattle.trace.specs.Trace.{projectionIn, contentWith, contentAt, viewIn, trailerRows, stored}
 use Rattle.trace.specs.Plain.{Slot, Plain, projectionOf, slotOf, withSlot, holds, viewOf, storedAs, bytes}
-use Rattle.trace.proofs.Numbers.{length-bytes, number-bytes}
-use Rattle.trace.proofs.Slots.{Sized, AllSized, length-body, state-part, word-part, marks-part, store-body}
+use Rattle.trace.proofs.Numbers.{number-bytes}
+use Rattle.trace.proofs.Slots.{Sized, content-sized, AllSized, length-body, state-part, word-part, marks-part, store-body}
 use Rattle.trace.proofs.Trailers.{length-trailer, ended-at, ended-distance, ended-count, ended-code, ended-edition}
 use Rattle.trace.proofs.Views.{tabulated}
 use Rattle.trace.proofs.Finding.{count-few}
@@ -43,8 +43,7 @@ pub record Sound (p : Plain) : Type 0 where
 
 module _ (π : Projection) where
   sized : (s : Slot) → Sized (storedAs π s)
-  sized Slot.blank = record { state = length-bytes 1 0; word = length-bytes 5 0; marks = length-bytes 5 0 }
-  sized (Slot.written m F M) = record { state = length-bytes 1 1; word = length-bytes 5 _; marks = length-bytes 5 M }
+  sized s = content-sized (holds π s)
 
   all-sized : (ss : List Slot) → AllSized (map (storedAs π) ss)
   all-sized [] = tt

@@ -15,16 +15,9 @@ use Rattle.trace.specs.Layout.{stateSize, wordSize, trailerSize, distanc
 use Rattle.trace.specs.Layout.{trailerAt, distanceIn, countIn, codeIn, editionIn, startIn, placeIn}
 use Rattle.trace.specs.Trace.{short, unfit, trailerRows, stored}
 use Rattle.trace.specs.ContractsOfSteps.{OpenedAs}
-use Rattle.trace.proofs.Numbers.{length-bytes}
 use Rattle.trace.proofs.Parts.{length-overwrite, part-behind}
-use Rattle.trace.proofs.Slots.{Sized}
+use Rattle.trace.proofs.Slots.{Sized, content-sized}
 use Rattle.trace.proofs.TraceRows.{fit-iff}
-
--- what every content stores has a slot's size
-content-sized : (c : Content) → Sized (contentBytes c)
-content-sized Content.Blank = record { state = length-bytes 1 0; word = length-bytes 5 0; marks = length-bytes 5 0 }
-content-sized Content.Bad = record { state = length-bytes 1 2; word = length-bytes 5 0; marks = length-bytes 5 0 }
-content-sized (Content.Written w m) = record { state = length-bytes 1 1; word = length-bytes 5 w; marks = length-bytes 5 m }
 
 -- ---- what is written before an end
 
