@@ -76,6 +76,15 @@ def needs_change(name):
     return spelled(name) != name
 
 
+def taken(text, crates):
+    """What a file takes from the library: the names that its imports list, of modules that are no crate's of the repository."""
+    names = set()
+    for module, listed in re.findall(r"^(?:ghost )?use ([\w.'-]+)\.\{([^}]*)\}", text, re.M):
+        if not any(module.startswith(f"Rattle.{c}.") for c in crates):
+            names |= {n.strip() for n in listed.split(",")}
+    return names
+
+
 def parts(text):
     """The text of a .rt file in parts: whether a part is a clause, a ghost import or a comment, and the part."""
     at = 0
@@ -105,6 +114,8 @@ def main():
         for n in names_in(t):
             if needs_change(n) and (n in defined or n not in library):
                 change.add(n)
+    crates = sorted(os.listdir("crates"))
+    kept = {p: taken(t, crates) for p, t in texts.items()}
     bad = 0
     for p, t in texts.items():
         if p.endswith(".rt") or p.count("/") > 3:
@@ -112,7 +123,7 @@ def main():
             continue
         seen = {}
         for n in names_in(t):
-            seen.setdefault(spelled(n) if n in change else n, set()).add(n)
+            seen.setdefault(spelled(n) if n in change and n not in kept[p] else n, set()).add(n)
         for new, old in sorted(seen.items()):
             if len(old) > 1:
                 print(f"{p}: {', '.join(sorted(old))} would both be {new}")
@@ -121,18 +132,23 @@ def main():
         print(f"{len(change)} names; {bad} fall together")
         raise SystemExit(1 if bad else 0)
 
-    def names(text):
-        return NAME.sub(lambda m: spelled(m.group(0)) if m.group(0) in change else m.group(0), text)
+    def names(text, kept):
+        def word(m):
+            n = m.group(0)
+            projected = m.start() > 0 and text[m.start() - 1] == "."
+            return spelled(n) if n in change and (projected or n not in kept) else n
 
-    def turn(text):
+        return NAME.sub(word, text)
+
+    def turn(text, kept):
         out, at = [], 0
         for m in COMMENT.finditer(text):
-            out += [names(text[at:m.start()]), re.sub(r"`[^`]*`", lambda q: names(q.group(0)), m.group(0))]
+            out += [names(text[at:m.start()], kept), re.sub(r"`[^`]*`", lambda q: names(q.group(0), kept), m.group(0))]
             at = m.end()
-        return "".join(out) + names(text[at:])
+        return "".join(out) + names(text[at:], kept)
 
     for p, t in texts.items():
-        new = "".join(turn(x) if code else x for code, x in parts(t)) if p.endswith(".rt") else turn(t)
+        new = "".join(turn(x, kept[p]) if code else x for code, x in parts(t)) if p.endswith(".rt") else turn(t, kept[p])
         if new != before[p]:
             with open(p, "w", encoding="utf-8") as f:
                 f.write(new)

@@ -2,7 +2,7 @@
 -- The columns of a number are its digits in base 16, so one more is the next quotient's remainder. A number is shifted so that its lowest m
 -- columns are the first m of ten; bits beyond the ten are no digits of theirs. The multiples of the matrix's columns stand four by four in the
 -- order of the columns and of the symbols, and as four bytes of one number for each column, which is a test of all of them.
-use Rattle.std.proofs.Common.{◌≡◌, ℕ, zero, suc, ◌+◌, ◌-◌, ◌*◌, ◌/◌, ◌%◌, ◌^◌, ◌<◌, ◌≤◌, Bool, T, List, [], ◌∷◌, map, length, get_or, take, drop, set, sym, refl, ap, ◌∙◌, ap₂, add_zero, pow-suc, zero-add, arith, drop_cons, get_or-set_same, drop-set-lt, lt-length-set, pow-add}
+use Rattle.std.proofs.Common.{◌≡◌, ℕ, zero, suc, ◌+◌, ◌-◌, ◌*◌, ◌/◌, ◌%◌, ◌^◌, ◌<◌, ◌≤◌, Bool, T, List, [], ◌∷◌, map, length, get_or, take, drop, set, sym, refl, ap, ◌∙◌, ap₂, add-zero, pow-suc, zero-add, arith, drop-cons, get_or-set_same, drop-set-lt, lt-length-set, pow-add}
 use native.Mathlib.Nat.{div-div-eq-div-mul, mul-div-mul_right}
 use lib.Pow.{mod-mod-pow}
 use Rattle.symbols.specs.Symbol.{Symbol, s0, s1, s2, s3, symbol_of}
@@ -19,7 +19,7 @@ use Rattle.codes.proofs.Digits.{Fit, columns_fit, place_pos, digits_remainder, p
 -- an array, from the place where an element was stored
 drop_set : (l : List ℕ) (j v : ℕ) → j < length l → drop j (set l j v) ≡ v ∷ drop (suc j) l
 drop_set l j v h =
-    drop_cons (set l j v) j 0 (lt-length-set l j v h) ∙ ap₂ ◌∷◌ (get_or-set_same l j v 0 h) (drop-set-lt (suc j) l j v (omega arith))
+    drop-cons (set l j v) j 0 (lt-length-set l j v h) ∙ ap₂ ◌∷◌ (get_or-set_same l j v 0 h) (drop-set-lt (suc j) l j v (omega arith))
 
 -- the columns of a number, stored from the last to the first: one column more, and what is then left of the number
 pub unpack_step : (l : List ℕ) (j k n : ℕ) → j < length l → map column_of (drop (suc j) l) ≡ digits columns k n →
@@ -95,7 +95,7 @@ tabulated (suc k) i f = f i ∷ tabulated k (suc i) f
 
 tabulated_at : {A : Type 0} (k i : ℕ) (f : ℕ → A) (d : A) (n : ℕ) → n < k → get_or (tabulated k i f) n d ≡ f (i + n)
 tabulated_at zero i f d n h = absurd (omega arith)
-tabulated_at (suc k) i f d zero h = ap f (sym (add_zero i))
+tabulated_at (suc k) i f d zero h = ap f (sym (add-zero i))
 tabulated_at (suc k) i f d (suc n) h =
     let e : suc i + n ≡ i + suc n = omega arith in
     tabulated_at k (suc i) f d n (omega arith) ∙ ap f e

@@ -5,8 +5,8 @@
 use Rattle.std.proofs.Common.{◌≡◌, ℕ, ◌+◌, ◌*◌, ◌^◌, ◌<◌, ◌≤◌, Bool, true, false, cond, leb, ◌↔◌, List, [], ◌∷◌, map, sym, refl, ap, ◌∙◌, arith, lit<, leb-false, leb-true}
 use mathlib.Core.Bool.{false≢true}
 use mathlib.Core.Option.{Option, none, some}
-use borrow.Author.Tests.{lt_leb, not-false}
-use lib.ListN.{get_or_map}
+use borrow.Author.Tests.{lt-leb, not-false}
+use lib.ListN.{get_or-map}
 use Rattle.symbols.specs.Symbol.{◌⊻◌}
 use Rattle.symbols.specs.Column.{parity, column_of, column_with}
 use Rattle.codes.specs.declared.code.Code.{Code}
@@ -41,7 +41,7 @@ walk_fixed =
     record {
       bits = λ c w walk k j h.
           let cs = word (projection c) w in
-          rw k.parities (mask_bit (map parity cs) j ∙ get_or_map parity cs j (column_of 0));
+          rw k.parities (mask_bit (map parity cs) j ∙ get_or-map parity cs j (column_of 0));
       rows = λ c w walk k. (collected c w walk k).syndromes;
       one_walk = λ c w a b k l.
           let parities : a.parities ≡ b.parities = k.parities ∙ sym l.parities in
@@ -66,7 +66,7 @@ pub decodes_codewords : DecodesCodewords
 decodes_codewords c x = (accepts, only)
   where
     accepts : IsCodeword c x → decoding (projection c) x ≡ accepted (decode (projection c) x ∷ [])
-    accepts k = rw (lt_leb (2 ^ width (projection c)) x k.0, k.1)
+    accepts k = rw (lt-leb (2 ^ width (projection c)) x k.0, k.1)
 
     only : (vs : List ℕ) → decoding (projection c) x ≡ accepted vs → IsCodeword c x
     only vs e =
@@ -97,7 +97,7 @@ calls_round_trip code message word = (reads, writes)
         let given = sym ((decodes_codewords c word).0 codeword) ∙ known.1 in
         let back : decode π word ≡ message = cc in
         let there = one_message c word codeword in
-        rw (known.0, ← back, lt_leb (2 ^ message_bits π) (decode π word) there.0, there.1)
+        rw (known.0, ← back, lt-leb (2 ^ message_bits π) (decode π word) there.0, there.1)
 
 pub sum_of_codewords : SumOfCodewords
 sum_of_codewords c x y k l =

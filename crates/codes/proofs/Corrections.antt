@@ -6,7 +6,7 @@
 use Rattle.std.proofs.Common.{◌≡◌, ℕ, zero, suc, ◌+◌, ◌*◌, ◌^◌, ◌<◌, ◌≤◌, Bool, true, false, cond, leb, ◌⊎◌, List, [], ◌∷◌, length, sym, refl, ap, ◌∙◌, ap₂, inl, inr, ⊎_elim, eq-or-lt_of_le, arith, le-leb, leb-false, leb-true}
 use mathlib.Core.Bool.{false≢true}
 use mathlib.Core.Option.{none, some}
-use borrow.Author.Tests.{lt_leb}
+use borrow.Author.Tests.{lt-leb}
 use lib.Bits.{bit_xor, bit_or, xor_zero_r, or_zero_r}
 use Rattle.symbols.specs.Column.{Column}
 use Rattle.symbols.proofs.Claims.{columns_add}
@@ -171,7 +171,7 @@ pub correcting_wide : (π : Projection) (w m : ℕ) → 2 ^ width π ≤ w → c
 correcting_wide π w m h = rw (le-leb (2 ^ width π) w h)
 
 pub correcting_wide_marks : (π : Projection) (w m : ℕ) → w < 2 ^ width π → 2 ^ width π ≤ m → correcting π w m ≡ refused 3
-correcting_wide_marks π w m l h = rw (lt_leb (2 ^ width π) w l, le-leb (2 ^ width π) m h)
+correcting_wide_marks π w m l h = rw (lt-leb (2 ^ width π) w l, le-leb (2 ^ width π) m h)
 
 pub correcting_fits : (π : Projection) (w m : ℕ) → w < 2 ^ width π → m < 2 ^ width π → correcting π w m ≡ correction_answer (correct π w m)
-correcting_fits π w m l h = rw (lt_leb (2 ^ width π) w l, lt_leb (2 ^ width π) m h)
+correcting_fits π w m l h = rw (lt-leb (2 ^ width π) w l, lt-leb (2 ^ width π) m h)

@@ -1,7 +1,7 @@
 -- Numbers and their digits: there and back, for bits, symbols and columns at once.
 -- A number modulo b^(k+1) is its digit k times b^k plus the number modulo b^k; all laws of digits follow from that by induction on k.
 -- Below them stand laws of powers and shifts.
-use Rattle.std.proofs.Common.{◌≡◌, ℕ, zero, suc, ◌+◌, ◌*◌, ◌/◌, ◌%◌, ◌^◌, ◌<◌, List, [], ◌∷◌, length, sym, refl, ap, ◌∙◌, ap₂, mod-lt, mod-eq_of_lt, one-mul, pow-suc, mul_zero, mul-suc, div-one, arith, lit<, pow-add, shl_exact, shr-shr}
+use Rattle.std.proofs.Common.{◌≡◌, ℕ, zero, suc, ◌+◌, ◌*◌, ◌/◌, ◌%◌, ◌^◌, ◌<◌, List, [], ◌∷◌, length, sym, refl, ap, ◌∙◌, ap₂, mod-lt, mod-eq_of_lt, one-mul, pow-suc, mul-zero, mul-suc, div-one, arith, lit<, pow-add, shl_exact, shr-shr}
 use native.Mathlib.Nat.{mod-one, one-le-pow, pow-zero, pow-succ'}
 use lib.Arith.{digits_lt, digits_div, digits_mod, mod-mul}
 use Rattle.symbols.specs.Symbol.{has_bit}
@@ -72,7 +72,7 @@ module _ {A : Type 0} (d : Digit A) (fit : Fit d) where
 
 -- a power of a power
 pub pow_mul : (a m n : ℕ) → (a ^ m) ^ n ≡ a ^ (m * n)
-pow_mul a m zero = rw (pow-zero (a ^ m), mul_zero m, pow-zero a)
+pow_mul a m zero = rw (pow-zero (a ^ m), mul-zero m, pow-zero a)
 pow_mul a m (suc n) = rw (pow-suc (a ^ m) n, pow_mul a m n, mul-suc m n, pow-add a (m * n) m)
 
 -- two shifts are one

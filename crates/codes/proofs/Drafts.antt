@@ -2,7 +2,7 @@
 -- The value of the next column is a digit of the message or of the syndrome, by the number of columns of its kind behind it, and its top
 -- bit is the next of the message's; the last top bit is what the top row's parity still wants.
 -- Where the columns that are not free have the value 0, the word's syndrome is what they must have for it to be a codeword.
-use Rattle.std.proofs.Common.{◌≡◌, ℕ, suc, ◌+◌, ◌-◌, ◌*◌, ◌/◌, ◌^◌, ◌<◌, Bool, true, false, not, List, [], ◌∷◌, ◌++◌, map, length, get_or, take, drop, set, refl, ap, ◌∙◌, arith, length_drop, drop_of_length-le, drop_cons, take-suc-set}
+use Rattle.std.proofs.Common.{◌≡◌, ℕ, suc, ◌+◌, ◌-◌, ◌*◌, ◌/◌, ◌^◌, ◌<◌, Bool, true, false, not, List, [], ◌∷◌, ◌++◌, map, length, get_or, take, drop, set, refl, ap, ◌∙◌, arith, length-drop, drop_of_length-le, drop-cons, take-suc-set}
 use mathlib.Core.List.{map-append}
 use Rattle.symbols.specs.Symbol.{◌⊻◌, Symbol, has_bit}
 use Rattle.symbols.specs.Column.{Column, value, column_of, column_with}
@@ -23,7 +23,7 @@ count_both (true ∷ l) = omega (arith, count_both l)
 count_both (false ∷ l) = omega (arith, count_both l)
 
 pub count_behind : (l : List Bool) (i : ℕ) → count (drop (suc i) l) + count (map not (drop (suc i) l)) ≡ length l - suc i
-count_behind l i = count_both (drop (suc i) l) ∙ length_drop (suc i) l
+count_behind l i = count_both (drop (suc i) l) ∙ length-drop (suc i) l
 
 -- the values of some columns, where the free ones have the digits of x and the others those of s
 abbrev pub values_of : List Bool → ℕ → ℕ → List Symbol
@@ -36,11 +36,11 @@ values_cons false l x s = refl
 -- column i, by whether it is free, and the values from it on
 module _ (l : List Bool) (i : ℕ) (h : i < length l) where
   pub value_from : (x s : ℕ) {b : Bool} → get_or l i false ≡ b → value_at (drop i l) x s ≡ value_at (b ∷ drop (suc i) l) x s
-  value_from x s e = rw (drop_cons l i false, e)
+  value_from x s e = rw (drop-cons l i false, e)
 
   values_from : (x s : ℕ) → values_of (drop i l) x s ≡ value_at (drop i l) x s ∷ values_of (drop (suc i) l) x s
   values_from x s =
-      rw (drop_cons l i false) (values_cons (get_or l i false) (drop (suc i) l) x s)
+      rw (drop-cons l i false) (values_cons (get_or l i false) (drop (suc i) l) x s)
 
 -- p is a message's highest bit
 pub parity_bit : (π : Projection) (n : ℕ) → has_bit (message_bits π - 1) n ≡ (message_of π n).parity

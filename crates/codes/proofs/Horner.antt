@@ -1,6 +1,6 @@
 -- Reading digits into a number, highest first: the number so far, shifted by as many places as are left, and the digits that are
 -- left make up the whole at each step. Where no digit is left it is the number so far; that never is more than the whole.
-use Rattle.std.proofs.Common.{◌≡◌, ℕ, ◌+◌, ◌*◌, ◌^◌, ◌≤◌, List, [], ◌∷◌, length, add_assoc, mul_assoc, add_mul, mul-le-mul_left, mul_one, arith}
+use Rattle.std.proofs.Common.{◌≡◌, ℕ, ◌+◌, ◌*◌, ◌^◌, ◌≤◌, List, [], ◌∷◌, length, add_assoc, mul_assoc, add-mul, mul-le-mul_left, mul-one, arith}
 use native.Mathlib.Nat.{pow-succ', pow-zero}
 use Rattle.codes.specs.Digits.{Digit, number_of}
 use Rattle.codes.proofs.Digits.{Fit, place_pos}
@@ -17,15 +17,15 @@ module _ {A : Type 0} (d : Digit A) where
         pow-succ' d.base (length xs),
         ← add_assoc (a * (d.base * b)) (d.number x * b) (number_of d xs),
         ← mul_assoc a d.base b,
-        add_mul (a * d.base) (d.number x) b,
+        add-mul (a * d.base) (d.number x) b,
       )
 
   pub followed_none : (a : ℕ) → followed d a [] ≡ a
   followed_none a =
-      let e : a * d.base ^ 0 ≡ a = rw pow-zero (mul_one a) in
+      let e : a * d.base ^ 0 ≡ a = rw pow-zero (mul-one a) in
       omega arith
 
   pub followed_le : Fit d → (a : ℕ) (xs : List A) → a ≤ followed d a xs
   followed_le fit a xs =
       let one : a * 1 ≤ a * d.base ^ length xs = mul-le-mul_left a (place_pos d fit (length xs)) in
-      omega (arith, mul_one a)
+      omega (arith, mul-one a)

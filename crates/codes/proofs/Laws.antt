@@ -3,7 +3,7 @@
 use Rattle.std.proofs.Common.{◌≡◌, ℕ, ◌+◌, ◌*◌, ◌^◌, ◌<◌, ◌≤◌, Bool, true, false, cond, leb, ◌↔◌, [], ◌∷◌, sym, refl, arith}
 use mathlib.Core.Option.{Option, none, some}
 use lib.Bits.{bit_xor}
-use borrow.Author.Tests.{lt_leb}
+use borrow.Author.Tests.{lt-leb}
 use Rattle.codes.specs.declared.code.Code.{Code}
 use Rattle.codes.specs.declared.code.Code.TheVariants.{O36, E36, O40, E40}
 use Rattle.codes.specs.declared.code.CodeFound.{CodeFound}
@@ -108,7 +108,7 @@ code_unknown n r e = go (is_code n) refl e
 -- ---- word calls whose numbers fit
 
 pub encoding_fits : (π : Projection) (n : ℕ) → n < 2 ^ message_bits π → encoding π n ≡ accepted (encode π n ∷ [])
-encoding_fits π n h = simp (lt_leb _ _ h)
+encoding_fits π n h = simp (lt-leb _ _ h)
 
 -- what mending found, by its answer
 pub answer_near : (x : Option Correction) (c : Correction) → accepted (correction_values c) ≡ correction_answer x → x ≡ some c

@@ -2,8 +2,8 @@
 -- At each step the number so far, followed by the digits of the columns that are left, is the whole; the whole is a message of the code, so
 -- the number so far is below the code's limit. Columns behind the last change nothing: they are not free and have no top bit in a message,
 -- and no digit is left there. So the steps may go on to the end of the array.
-use Rattle.std.proofs.Common.{◌≡◌, ℕ, zero, suc, ◌+◌, ◌*◌, ◌^◌, ◌<◌, ◌≤◌, Bool, true, false, cond, ltb, List, [], ◌∷◌, map, length, get_or, take, drop, sym, refl, ap, lt_of_le_of_lt, arith, drop_of_length-le, drop_cons, get_or_take, ltb-false, ltb-true, le-ltb, lt-ltb}
-use lib.ListN.{get_or-eq_default, get_or_map, length-map}
+use Rattle.std.proofs.Common.{◌≡◌, ℕ, zero, suc, ◌+◌, ◌*◌, ◌^◌, ◌<◌, ◌≤◌, Bool, true, false, cond, ltb, List, [], ◌∷◌, map, length, get_or, take, drop, sym, refl, ap, lt_of_le_of_lt, arith, drop_of_length-le, drop-cons, get_or-take, ltb-false, ltb-true, le-ltb, lt-ltb}
+use lib.ListN.{get_or-eq_default, get_or-map, length-map}
 use Rattle.symbols.specs.Symbol.{Symbol, symbol_number}
 use Rattle.symbols.specs.Column.{Column, value, parity, top, one, column_of}
 use Rattle.codes.specs.Digits.{bits, symbols}
@@ -68,7 +68,7 @@ module _ (π : Projection) (sys : Systematic π) (a : List ℕ) (room : size π 
   read_value i n =
       before_or_behind i (size π)
       (λ h.
-      rw (drop_cons π.free i false (omega (arith, sys.flags)), held_from π a room i h)
+      rw (drop-cons π.free i false (omega (arith, sys.flags)), held_from π a room i h)
       (chosen_next n (get_or π.free i false) (drop (suc i) π.free) (value (column_of (get_or a i 0))) (map value (drop (suc i) cs))))
       (λ h. rw (no_value i h, no_value (suc i) (omega arith), get_or-eq_default π.free false {n = i} (omega (arith, sys.flags))))
 
@@ -90,9 +90,9 @@ module _ (π : Projection) (sys : Systematic π) (a : List ℕ) (room : size π 
       rw (
         lt-ltb i (top_bits π) h,
         but_last_from (map top cs) i (omega (arith, long, length-map cs top)),
-        get_or_map top cs i (column_of 0),
-        get_or_map column_of (take (size π) a) i 0,
-        get_or_take (size π) a i 0 (omega arith),
+        get_or-map top cs i (column_of 0),
+        get_or-map column_of (take (size π) a) i 0,
+        get_or-take (size π) a i 0 (omega arith),
       )
       (followed_next bits n (top (column_of (get_or a i 0))) (drop (suc i) (but_last (map top cs)))))
       (λ h. rw (le-ltb i (top_bits π) h, no_top i h, no_top (suc i) (omega arith)))

@@ -3,10 +3,10 @@
 -- up what is collected from there on: the parities are a mask, packed vectors add by exclusive or, and the syndrome and the top row's parity are
 -- defined by the first column and the rest. A packed syndrome stays below 4 to the power of the rows, as each multiple does, since that is a
 -- power of two. Behind a code's last column there is nothing to collect.
-use Rattle.std.proofs.Common.{◌≡◌, ℕ, zero, suc, ◌+◌, ◌*◌, ◌^◌, ◌<◌, ◌≤◌, true, false, not, eqb, List, [], ◌∷◌, map, length, get_or, take, drop, sym, refl, ap, ◌∙◌, arith, drop_of_length-le, length-take-le, drop_cons, get_or_take, eqb-true}
+use Rattle.std.proofs.Common.{◌≡◌, ℕ, zero, suc, ◌+◌, ◌*◌, ◌^◌, ◌<◌, ◌≤◌, true, false, not, eqb, List, [], ◌∷◌, map, length, get_or, take, drop, sym, refl, ap, ◌∙◌, arith, drop_of_length-le, length-take-le, drop-cons, get_or-take, eqb-true}
 use mathlib.Core.Bool.{beq, and-eq-true_iff}
 use lib.Bits.{bit_xor, xor_lt}
-use lib.ListN.{get_or_map, length-map}
+use lib.ListN.{get_or-map, length-map}
 use Rattle.symbols.specs.Symbol.{Symbol}
 use Rattle.symbols.specs.Column.{Column, value, parity, top, one, column_of}
 use Rattle.symbols.proofs.Claims.{exclusive_or}
@@ -68,7 +68,7 @@ module _ (π : Projection) (i x : ℕ) where
       from.parities ≡ behind.parities * 2 + one (parity (column_of x)) → from.top ≡ not (beq behind.top (top (column_of x))) →
       from.syndrome ≡ bit_xor behind.syndrome g → OneMore π i x behind from
   one_column_more shape h behind from g eg ep et es cs long here w =
-      rw (drop_cons π.matrix i [] h, drop_cons cs i (column_of 0) (omega arith), here h)
+      rw (drop-cons π.matrix i [] h, drop-cons cs i (column_of 0) (omega arith), here h)
       (walked_more π.rows (get_or π.matrix i []) (drop (suc i) π.matrix) (column_of x) (drop (suc i) cs) behind from g
       (shaped_at π.rows π.matrix i shape h) eg ep et es w)
 
@@ -89,10 +89,10 @@ module _ (π : Projection) (a : List ℕ) (room : size π ≤ length a) where
   length_held = length-map (take (size π) a) column_of ∙ length-take-le (size π) a room
 
   pub held_at : (j : ℕ) → j < size π → get_or (held π a) j (column_of 0) ≡ column_of (get_or a j 0)
-  held_at j h = rw (get_or_map column_of (take (size π) a) j 0, get_or_take (size π) a j 0 h)
+  held_at j h = rw (get_or-map column_of (take (size π) a) j 0, get_or-take (size π) a j 0 h)
 
   pub held_from : (j : ℕ) → j < size π → drop j (held π a) ≡ column_of (get_or a j 0) ∷ drop (suc j) (held π a)
-  held_from j h = rw (drop_cons (held π a) j (column_of 0) (omega (arith, length_held)), held_at j h)
+  held_from j h = rw (drop-cons (held π a) j (column_of 0) (omega (arith, length_held)), held_at j h)
 
   -- before the walk over it all columns are ahead
   pub walk_start : (k : ℕ) → size π ≤ k →

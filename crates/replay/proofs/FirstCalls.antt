@@ -6,8 +6,8 @@ use mathlib.Core.Path.{◌≡◌, refl}
 use mathlib.Core.Bool.{false}
 use mathlib.Core.List.{List, [], ◌∷◌}
 use native.Mathlib.Omega.{arith}
-use lib.ListN.{length, get_or, drop, length_drop}
-use borrow.Author.Tests.{le-leb, lt_leb}
+use lib.ListN.{length, get_or, drop, length-drop}
+use borrow.Author.Tests.{le-leb, lt-leb}
 use Rattle.trace.specs.Calls.{Call}
 use Rattle.trace.specs.Trace.{on_bytes}
 use Rattle.replay.specs.declared.answers.Written.{Written}
@@ -33,7 +33,7 @@ module _ (xs b out : List ℕ) where
       → (n : ℕ) → play on_bytes (calls_in n xs) (length out) b ≡ nothing b
   unfolding play calls_in
   play_no_room h lt zero = refl
-  play_no_room h lt (suc n) = rw (first_call n h, lt_leb _ _ lt)
+  play_no_room h lt (suc n) = rw (first_call n h, lt-leb _ _ lt)
 
   -- it ran, or it had no room
   pub runs_next : {c : Call} {k : ℕ} (b' out' : List ℕ) → BeginsWith xs c k → (w : Written) → RunsCall c b out b' out' w
@@ -53,9 +53,9 @@ module _ (xs b out : List ℕ) where
 pub calls_enough : (m n : ℕ) (xs : List ℕ) → length xs ≤ m → length xs ≤ n → calls_in m xs ≡ calls_in n xs
 unfolding calls_in is_call
 calls_enough zero zero xs hm hn = refl
-calls_enough zero (suc n) xs hm hn = rw (lt_leb 2 (length xs) (omega arith))
-calls_enough (suc m) zero xs hm hn = rw (lt_leb 2 (length xs) (omega arith))
+calls_enough zero (suc n) xs hm hn = rw (lt-leb 2 (length xs) (omega arith))
+calls_enough (suc m) zero xs hm hn = rw (lt-leb 2 (length xs) (omega arith))
 calls_enough (suc m) (suc n) xs hm hn =
     let rest : calls_in m (drop (2 + get_or xs 1 0) xs) ≡ calls_in n (drop (2 + get_or xs 1 0) xs) =
-    calls_enough m n (drop (2 + get_or xs 1 0) xs) (rw length_drop (omega arith)) (rw length_drop (omega arith)) in
+    calls_enough m n (drop (2 + get_or xs 1 0) xs) (rw length-drop (omega arith)) (rw length-drop (omega arith)) in
     rw rest

@@ -3,9 +3,9 @@
 use Prim.Native.Nat.{ℕ, suc, ◌+◌, ◌-◌, ◌<◌, ◌≤◌}
 use mathlib.Core.Path.{◌≡◌, refl, sym, ◌∙◌}
 use mathlib.Core.List.{List, [], ◌++◌, append_assoc, append-nil}
-use native.Mathlib.Nat.{add_zero}
+use native.Mathlib.Nat.{add-zero}
 use native.Mathlib.Omega.{arith}
-use lib.ListN.{length, take, drop, length-append, length_drop, take-append-drop, drop_of_length-le}
+use lib.ListN.{length, take, drop, length-append, length-drop, take-append-drop, drop_of_length-le}
 use lib.Seq.{take_at, drop_at, drop-drop, length-take-le}
 use borrow.Rule.Slice.PartMut.{put_mid, put_same}
 use Rattle.trace.specs.Trace.{on_bytes}
@@ -29,7 +29,7 @@ pub record Progress (calls b₀ answers₀ b answers : List ℕ) (ran at written
   pub left : drop written answers ≡ drop written answers₀
 
 before_none : (p : Played (List ℕ)) → p ≡ before 0 [] p
-before_none p = rw add_zero
+before_none p = rw add-zero
 
 before_one : (n : ℕ) (xs ys : List ℕ) (p : Played (List ℕ)) → before n xs (before 1 ys p) ≡ before (n + 1) (xs ++ ys) p
 before_one n xs ys p =
@@ -65,11 +65,11 @@ module _ {calls b₀ answers₀ b answers : List ℕ} {ran at written : ℕ} (p 
       ≡ before 1 t.numbers (play on_bytes (calls_in (length calls - (at + size)) (drop (at + size) calls)) (length answers₀ - (written + count)) b')
   rest_next {size = size} {count = count} lt t =
       let more : length calls - at ≡ suc (length calls - at - 1) = omega arith in
-      let room : length answers₀ - written ≡ length (drop written answers) = sym (rw (length_drop, p.room)) in
+      let room : length answers₀ - written ≡ length (drop written answers) = sym (rw (length-drop, p.room)) in
       let space : length (drop written answers) - count ≡ length answers₀ - (written + count) = omega arith in
       let left = drop (at + size) calls in
       let rest : calls_in (length calls - at - 1) (drop size (drop at calls)) ≡ calls_in (length calls - (at + size)) left =
-      rw drop-drop (calls_enough _ _ left (rw length_drop (omega arith)) (rw length_drop (omega arith))) in
+      rw drop-drop (calls_enough _ _ left (rw length-drop (omega arith)) (rw length-drop (omega arith))) in
       rw (more, room) (t.played (length calls - at - 1) ∙ rw (rest, space))
 
   progress_next : {b' out : List ℕ} {size count : ℕ} → at < length calls → RanNext (drop at calls) b (drop written answers) size count b' out
@@ -78,8 +78,8 @@ module _ {calls b₀ answers₀ b answers : List ℕ} {ran at written : ℕ} (p 
   progress_next {out = out} {size} {count} lt t same =
       let xs = t.numbers in
       let long : written ≤ length answers = omega arith in
-      let fits : written + count ≤ length answers = omega (arith, length_drop written answers) in
-      let within : size ≤ length calls - at = rw length_drop at t.within in
+      let fits : written + count ≤ length answers = omega (arith, length-drop written answers) in
+      let within : size ≤ length calls - at = rw length-drop at t.within in
       let front = take written answers ++ xs in
       let size_front : length front ≡ written + count = simp (length-append, length-take-le written answers long, t.written.size) in
       let joined : put_mid written (length answers - written) answers out ≡ front ++ drop (written + count) answers =
@@ -89,7 +89,7 @@ module _ {calls b₀ answers₀ b answers : List ℕ} {ran at written : ℕ} (p 
         written_le = omega arith;
         ran_le = omega arith;
         buffer = same ∙ p.buffer;
-        room = rw joined (simp (length-append, length_drop) (omega (arith, length-append (take written answers) xs)));
+        room = rw joined (simp (length-append, length-drop) (omega (arith, length-append (take written answers) xs)));
         whole =
             p.whole
             ∙ rw (rest_next lt t, joined, take_at front (drop (written + count) answers) (written + count) size_front)
@@ -126,7 +126,7 @@ module _ {calls b₀ answers₀ b answers : List ℕ} {ran at written : ℕ} (p 
       → LeftBy (play on_bytes (calls_of calls) (length answers₀) b₀) answers₀ ran b'
       (put_mid written (length answers - written) answers out)
   left_stopped t =
-      let room : length (drop written answers) ≡ length answers₀ - written = rw (length_drop, p.room) in
+      let room : length (drop written answers) ≡ length answers₀ - written = rw (length-drop, p.room) in
       rw (t.1, t.2, put_same written (length answers - written) answers)
       (left_finished (rw (rest_part calls at, rest_part answers written, room) at (t.0 (length calls - at))))
 

@@ -6,22 +6,22 @@ use mathlib.Core.Bool.{true, false, and-eq-true_iff}
 use mathlib.Core.List.{List}
 use native.Mathlib.Omega.{arith}
 use lib.Dec.{ltb, leb}
-use lib.ListN.{length, get_or, take, drop, length_drop}
+use lib.ListN.{length, get_or, take, drop, length-drop}
 use lib.Seq.{take_all}
-use borrow.Author.Tests.{ltb-true, leb-true, le-leb, lt_leb, ne_eqb}
+use borrow.Author.Tests.{ltb-true, leb-true, le-leb, lt-leb, ne_eqb}
 use Rattle.replay.specs.declared.calls.Next.{Next}
 use Rattle.replay.specs.Numbers.{kinds, count_fits, seed_fits, is_call, call_in}
 use Rattle.replay.specs.ContractsOfSteps.{NextIn}
 
 -- the part from a place to the end
 pub rest_part : (xs : List ℕ) (n : ℕ) → take (length xs - n) (drop n xs) ≡ drop n xs
-rest_part xs n = take_all (length xs - n) (drop n xs) (rw length_drop (omega arith))
+rest_part xs n = take_all (length xs - n) (drop n xs) (rw length-drop (omega arith))
 
 -- where a test fails
 module _ (xs : List ℕ) where
   pub no_head : length xs < 2 → is_call xs ≡ false
   unfolding is_call
-  no_head lt = simp (lt_leb _ _ lt)
+  no_head lt = simp (lt-leb _ _ lt)
 
 module _ (xs : List ℕ) (head : 2 ≤ length xs) where
   pub no_count : count_fits (get_or xs 0 0) (get_or xs 1 0) (get_or xs 3 0) ≡ false → is_call xs ≡ false
@@ -30,7 +30,7 @@ module _ (xs : List ℕ) (head : 2 ≤ length xs) where
 
   pub cut_short : count_fits (get_or xs 0 0) (get_or xs 1 0) (get_or xs 3 0) ≡ true → length xs < 2 + get_or xs 1 0 → is_call xs ≡ false
   unfolding is_call
-  cut_short e lt = simp (le-leb _ _ head, e, lt_leb _ _ lt)
+  cut_short e lt = simp (le-leb _ _ head, e, lt-leb _ _ lt)
 
 -- where the count fits and all the numbers are there
 module _ (xs : List ℕ) (head : 2 ≤ length xs) (count : count_fits (get_or xs 0 0) (get_or xs 1 0) (get_or xs 3 0) ≡ true)

@@ -8,8 +8,8 @@ use Prim.Native.Nat.{ℕ, zero, suc, ◌+◌, ◌-◌, ◌<◌, ◌≤◌}
 use native.Mathlib.Omega.{arith}
 use native.Mathlib.Nat.{zero-add}
 use native.Mathlib.Numerals.{add-one, unary_clauses}
-use lib.ListN.{length, take, drop, get_or, length_drop, drop_of_length-le}
-use lib.Seq.{drop_cons, take-nil, take-suc, take_all, take-take, drop-drop, length-take-le}
+use lib.ListN.{length, take, drop, get_or, length-drop, drop_of_length-le}
+use lib.Seq.{drop-cons, take-nil, take-suc, take_all, take-take, drop-drop, length-take-le}
 use borrow.Author.Tests.{eq-eqb, ne_eqb}
 use Rattle.script.specs.Script.{is_blank, skip_blanks, keep, trim_end, without_return, bare, up_to, word, behind, argument, IsPart}
 
@@ -17,11 +17,11 @@ use Rattle.script.specs.Script.{is_blank, skip_blanks, keep, trim_end, without_r
 
 pub skip_next : (b : List ℕ) (i : ℕ) → i < length b → is_blank (get_or b i 0) ≡ true → skip_blanks (drop i b) ≡ skip_blanks (drop (i + 1) b)
 unfolding skip_blanks
-skip_next b i h e = simp (drop_cons b i 0 h, e, add-one)
+skip_next b i h e = simp (drop-cons b i 0 h, e, add-one)
 
 pub skip_here : (b : List ℕ) (i : ℕ) → i < length b → is_blank (get_or b i 0) ≡ false → skip_blanks (drop i b) ≡ drop i b
 unfolding skip_blanks
-skip_here b i h e = simp (drop_cons b i 0 h, e)
+skip_here b i h e = simp (drop-cons b i 0 h, e)
 
 pub skip_beyond : (b : List ℕ) (i : ℕ) → length b ≤ i → skip_blanks (drop i b) ≡ drop i b
 unfolding skip_blanks
@@ -31,11 +31,11 @@ skip_beyond b i h = simp (drop_of_length-le b h)
 module _ (ends : ℕ → Bool) (b : List ℕ) (i : ℕ) where
   pub piece_next : i < length b → ends (get_or b i 0) ≡ false → length (up_to ends (drop i b)) ≡ suc (length (up_to ends (drop (i + 1) b)))
   unfolding up_to
-  piece_next h e = simp (drop_cons b i 0 h, e, add-one)
+  piece_next h e = simp (drop-cons b i 0 h, e, add-one)
 
   pub piece_here : i < length b → ends (get_or b i 0) ≡ true → length (up_to ends (drop i b)) ≡ 0
   unfolding up_to
-  piece_here h e = simp (drop_cons b i 0 h, e)
+  piece_here h e = simp (drop-cons b i 0 h, e)
 
   pub piece_beyond : length b ≤ i → length (up_to ends (drop i b)) ≡ 0
   unfolding up_to
@@ -153,7 +153,7 @@ pub argument_part : (line : List ℕ) (from to end start : ℕ) → IsPart line 
 unfolding argument
 argument_part line from to end start part first skip less =
     let size : to - (from + start) ≡ to - from - start = omega arith in
-    let room = length-take-le (to - from) (drop from line) (simp length_drop (omega (arith, part.inside))) in
+    let room = length-take-le (to - from) (drop from line) (simp length-drop (omega (arith, part.inside))) in
     record {
       ordered = omega (arith, part.ordered);
       inside = part.inside;

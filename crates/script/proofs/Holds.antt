@@ -5,7 +5,7 @@ use mathlib.Core.Bool.{Bool, true, false}
 use mathlib.Core.List.{List, [], ◌∷◌, ◌++◌, append_assoc, append-nil}
 use Prim.Native.Nat.{ℕ, ◌+◌, ◌<◌, ◌≤◌}
 use native.Mathlib.Omega.{arith}
-use native.Mathlib.Nat.{add_zero, zero-add}
+use native.Mathlib.Nat.{add-zero, zero-add}
 use native.Mathlib.Numerals.{add-one}
 use lib.Dec.{ltb}
 use lib.ListN.{length, take, set, length-set}
@@ -32,7 +32,7 @@ hold_all_lem : (cs b : List ℕ) (n : ℕ) → length b ≡ longest_line → n +
     → ((hold_all cs (holding b n)).count ≡ n + length cs)
     × (take (n + length cs) (hold_all cs (holding b n)).buffer ≡ take n b ++ cs)
 unfolding hold_all
-hold_all_lem [] b n room fits = (omega arith, rw (add_zero, append-nil))
+hold_all_lem [] b n room fits = (omega arith, rw (add-zero, append-nil))
 hold_all_lem (c ∷ cs) b n room fits =
     let more = hold_all_lem cs (set b n c) (n + 1) (simp length-set room) (omega arith) in
     let size : n + 1 + length cs ≡ n + length (c ∷ cs) = omega arith in

@@ -9,7 +9,7 @@ use native.Mathlib.Nat.{zero-add}
 use native.Mathlib.Numerals.{add-one}
 use lib.ListN.{length, get_or, set, length-replicate, get_or-replicate}
 use lib.Seq.{take-length, paste, paste-suc}
-use borrow.Author.Tests.{le-leb, lt_leb}
+use borrow.Author.Tests.{le-leb, lt-leb}
 use types.Run.{OneOf, miss}
 use denote.Enum.Declared.{tag_of}
 use Rattle.script.specs.declared.line.Command.{Command}
@@ -42,7 +42,7 @@ lent_all xs b buffer n size fits e = simp (e, size, le-leb (length xs) (length b
 
 pub lent_too_many : (xs b : List ℕ) → length b < length xs → lending Lent.TooMany b ≡ lend_in (some xs) b
 unfolding lend_in
-lent_too_many xs b h = simp (lt_leb (length xs) (length b) h)
+lent_too_many xs b h = simp (lt-leb (length xs) (length b) h)
 
 pub lent_nothing : (o : Option (List ℕ)) (b : List ℕ) → none ≡ o → lending Lent.Nothing b ≡ lend_in o b
 unfolding lend_in

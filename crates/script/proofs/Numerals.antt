@@ -6,18 +6,18 @@ use Prim.Native.Nat.{ℕ, ◌+◌, ◌-◌, ◌*◌, ◌^◌, ◌<◌, ◌≤◌
 use native.Mathlib.Omega.{arith}
 use native.Mathlib.Numerals.{add-one}
 use lib.ListN.{length, drop, get_or}
-use lib.Seq.{drop_cons}
-use borrow.Author.Tests.{lt-ltb, le-ltb, le-leb, lt_leb}
+use lib.Seq.{drop-cons}
+use borrow.Author.Tests.{lt-ltb, le-ltb, le-leb, lt-leb}
 use Rattle.script.specs.declared.numbers.Number.{Number}
 use Rattle.script.specs.Script.{digit_on, digits_on, number_of}
 
 pub digit_below : (n c : ℕ) → c < 48 → Number.Nothing ≡ digit_on n c
 unfolding digit_on
-digit_below n c h = simp (lt_leb 48 c h)
+digit_below n c h = simp (lt-leb 48 c h)
 
 pub digit_above : (n c : ℕ) → 48 ≤ c → 57 < c → Number.Nothing ≡ digit_on n c
 unfolding digit_on
-digit_above n c l h = simp (le-leb 48 c l, lt_leb c 57 h)
+digit_above n c l h = simp (le-leb 48 c l, lt-leb c 57 h)
 
 pub digit_large : (n c : ℕ) → 48 ≤ c → c ≤ 57 → 2 ^ 64 ≤ n * 10 + (c - 48) → Number.Nothing ≡ digit_on n c
 unfolding digit_on
@@ -36,7 +36,7 @@ number_some [] some = absurd (some refl)
 number_some (c ∷ cs) some = refl
 
 pub digits_step : (w : List ℕ) (i n : ℕ) → i < length w → digits_on (drop i w) (Number.Is n) ≡ digits_on (drop (i + 1) w) (digit_on n (get_or w i 0))
-digits_step w i n h = rw (add-one, drop_cons w i 0 h)
+digits_step w i n h = rw (add-one, drop-cons w i 0 h)
 
 pub digits_nothing : (w : List ℕ) → digits_on w Number.Nothing ≡ Number.Nothing
 digits_nothing [] = refl

@@ -6,12 +6,12 @@ use mathlib.Core.List.{List, [], ◌∷◌}
 use mathlib.Core.Option.{Option, none, some}
 use Prim.Native.Nat.{ℕ, ◌+◌, ◌-◌, ◌<◌, ◌≤◌}
 use native.Mathlib.Omega.{arith}
-use native.Mathlib.Nat.{add_zero, zero-add}
+use native.Mathlib.Nat.{add-zero, zero-add}
 use native.Mathlib.Numerals.{add-one}
 use lib.Dec.{ltb}
-use lib.ListN.{length, drop, get_or, length_drop, drop_of_length-le}
-use lib.Seq.{drop_cons, get_or-drop, drop-drop}
-use borrow.Author.Tests.{le-leb, lt_leb, ltb-true}
+use lib.ListN.{length, drop, get_or, length-drop, drop_of_length-le}
+use lib.Seq.{drop-cons, get_or-drop, drop-drop}
+use borrow.Author.Tests.{le-leb, lt-leb, ltb-true}
 use Rattle.script.specs.declared.numbers.Counted.{Counted}
 use Rattle.script.specs.Script.{is_blank, skip_blanks, hex_value, is_pair, hex_byte, in_front, hex_bytes}
 use Rattle.script.specs.ContractsOfSteps.{is_pair_front, is_pair_at, counted_on, list_of, IsList}
@@ -25,37 +25,37 @@ hex_digit c l h = simp (le-leb 48 c l, le-leb c 57 h)
 
 pub hex_upper : (c : ℕ) → 65 ≤ c → c ≤ 70 → c - 65 + 10 ≡ hex_value c
 unfolding hex_value
-hex_upper c l h = simp (le-leb 48 c (omega arith), lt_leb c 57 (omega arith), le-leb 65 c l, le-leb c 70 h) (omega arith)
+hex_upper c l h = simp (le-leb 48 c (omega arith), lt-leb c 57 (omega arith), le-leb 65 c l, le-leb c 70 h) (omega arith)
 
 pub hex_lower : (c : ℕ) → 97 ≤ c → c ≤ 102 → c - 97 + 10 ≡ hex_value c
 unfolding hex_value
 hex_lower c l h =
-    simp (le-leb 48 c (omega arith), lt_leb c 57 (omega arith), le-leb 65 c (omega arith), lt_leb c 70 (omega arith), le-leb 97 c l, le-leb c 102 h)
+    simp (le-leb 48 c (omega arith), lt-leb c 57 (omega arith), le-leb 65 c (omega arith), lt-leb c 70 (omega arith), le-leb 97 c l, le-leb c 102 h)
     (omega arith)
 
 pub hex_below : (c : ℕ) → c < 48 → 16 ≡ hex_value c
 unfolding hex_value
-hex_below c h = simp (lt_leb 48 c h, lt_leb 65 c (omega arith), lt_leb 97 c (omega arith))
+hex_below c h = simp (lt-leb 48 c h, lt-leb 65 c (omega arith), lt-leb 97 c (omega arith))
 
 pub hex_between : (c : ℕ) → 57 < c → c < 65 → 16 ≡ hex_value c
 unfolding hex_value
-hex_between c l h = simp (le-leb 48 c (omega arith), lt_leb c 57 l, lt_leb 65 c h, lt_leb 97 c (omega arith))
+hex_between c l h = simp (le-leb 48 c (omega arith), lt-leb c 57 l, lt-leb 65 c h, lt-leb 97 c (omega arith))
 
 pub hex_between_cases : (c : ℕ) → 70 < c → c < 97 → 16 ≡ hex_value c
 unfolding hex_value
 hex_between_cases c l h =
-    simp (le-leb 48 c (omega arith), lt_leb c 57 (omega arith), le-leb 65 c (omega arith), lt_leb c 70 l, lt_leb 97 c h)
+    simp (le-leb 48 c (omega arith), lt-leb c 57 (omega arith), le-leb 65 c (omega arith), lt-leb c 70 l, lt-leb 97 c h)
 
 pub hex_above : (c : ℕ) → 102 < c → 16 ≡ hex_value c
 unfolding hex_value
 hex_above c h =
     simp (
       le-leb 48 c (omega arith),
-      lt_leb c 57 (omega arith),
+      lt-leb c 57 (omega arith),
       le-leb 65 c (omega arith),
-      lt_leb c 70 (omega arith),
+      lt-leb c 70 (omega arith),
       le-leb 97 c (omega arith),
-      lt_leb c 102 h,
+      lt-leb c 102 h,
     )
 
 -- ---- pairs
@@ -107,24 +107,24 @@ Paired b at = (at + 1 < length b) × (hex_bytes (drop at b) ≡ in_front (hex_by
 -- a place of a text
 module _ (b : List ℕ) (at : ℕ) where
   first : get_or (drop at b) 0 0 ≡ get_or b at 0
-  first = simp (get_or-drop, add_zero)
+  first = simp (get_or-drop, add-zero)
 
   second : get_or (drop at b) 1 0 ≡ get_or b (at + 1) 0
   second = get_or-drop at b 1 0
 
   pub pair_short : length b - at < 2 → false ≡ is_pair_at b at
-  pair_short h = front_short (drop at b) (rw length_drop h)
+  pair_short h = front_short (drop at b) (rw length-drop h)
 
   pub pair_two : at + 1 < length b → is_pair (get_or b at 0) (get_or b (at + 1) 0) ≡ is_pair_at b at
-  pair_two h = rw (← first, ← second) (front_two (drop at b) (rw length_drop (omega arith)))
+  pair_two h = rw (← first, ← second) (front_two (drop at b) (rw length-drop (omega arith)))
 
   pub pair_none : at < length b → Starts (drop at b) → is_pair_at b at ≡ false → hex_bytes (drop at b) ≡ none
-  pair_none h = front_none (drop at b) (rw length_drop (omega arith))
+  pair_none h = front_none (drop at b) (rw length-drop (omega arith))
 
   pub pair_first : Starts (drop at b) → is_pair_at b at ≡ true → Paired b at
   pair_first s e =
       let found = front_pair (drop at b) s e in
-      (omega (arith, length_drop at b, found.0), found.1 ∙ rw (first, second, drop-drop))
+      (omega (arith, length-drop at b, found.0), found.1 ∙ rw (first, second, drop-drop))
 
 -- ---- texts that have bytes
 
@@ -133,8 +133,8 @@ pub byte_some : (x : ℕ) (o : Option (List ℕ)) (xs : List ℕ) (i : ℕ) → 
 byte_some x none xs i e = let z : ◌≡◌ {A = ℕ} 0 1 = cc in absurd (omega arith)
 byte_some x (some ys) xs i e =
     let more : x ∷ ys ≡ drop i xs = cc in
-    let room : i < length xs = omega (arith, ap length more, length_drop i xs) in
-    let split = more ∙ drop_cons xs i 0 room in
+    let room : i < length xs = omega (arith, ap length more, length-drop i xs) in
+    let split = more ∙ drop-cons xs i 0 room in
     (room, (cc), rw add-one (ap some (cc)))
 
 -- where the bytes of a text are known from i on, those of the pair are byte i
@@ -173,7 +173,7 @@ unfolding hex_bytes
 bytes_end b at xs i h room e =
     let none_left = rw (drop_of_length-le b h) at e in
     let left : [] ≡ drop i xs = cc in
-    omega (arith, ap length left, length_drop i xs)
+    omega (arith, ap length left, length-drop i xs)
 
 -- ---- how many bytes
 

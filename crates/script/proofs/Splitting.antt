@@ -6,7 +6,7 @@ use mathlib.Core.Bool.{Bool, true, false, cond}
 use mathlib.Core.List.{List, [], ◌∷◌}
 use Prim.Native.Nat.{ℕ, ◌+◌, ◌-◌, ◌<◌}
 use native.Mathlib.Omega.{arith}
-use lib.ListN.{length, take, drop, get_or, length_drop}
+use lib.ListN.{length, take, drop, get_or, length-drop}
 use lib.Seq.{take_all, drop-drop}
 use borrow.Author.Tests.{eq-eqb, ne_eqb}
 use Rattle.script.specs.declared.numbers.Number.{Number}
@@ -80,7 +80,7 @@ word_some (c ∷ cs) h e = rw e (omega arith)
 -- no blank stands at `at`, and the word there ends at `end`
 module _ (b : List ℕ) (at end : ℕ) (inside : at < length b) (front : Starts (drop at b)) (ends : end ≡ at + length (word (drop at b))) where
   some : 0 < length (drop at b)
-  some = simp length_drop (omega arith)
+  some = simp length-drop (omega arith)
 
   pub word_moves : at < end
   word_moves = omega (arith, word_some (drop at b) some front)
@@ -132,5 +132,5 @@ pub spoken_command : (l : List ℕ) (end from : ℕ) → (length l ≡ 0 → ⊥
 spoken_command l end from some other ends skip =
     let size : end ≡ length (word l) = omega arith in
     let name : take end l ≡ word l = rw size (take_piece is_blank l) in
-    let text = take_all (length l - from) (drop from l) (rw length_drop (omega arith)) ∙ behind_at l end from ends skip in
+    let text = take_all (length l - from) (drop from l) (rw length-drop (omega arith)) ∙ behind_at l end from ends skip in
     rw (name, text) (spoken_other l some other)

@@ -2,7 +2,7 @@
 -- and nothing changes; where they pass, its own rows decide, by the slot's content alone; where all pass, the new content is stored.
 use Rattle.std.proofs.Common.{◌≡◌, ℕ, ◌<◌, ◌≤◌, List, [], ◌∷◌, sym, refl, ◌∙◌, arith, le-ltb, le-leb}
 use lib.Bits.{bit_xor, bit_or}
-use borrow.Author.Tests.{lt_leb}
+use borrow.Author.Tests.{lt-leb}
 use Rattle.codes.specs.declared.code.Code.{Code}
 use Rattle.codes.specs.Answer.{accepted, refused, Row, Passes, Refuses}
 use Rattle.codes.specs.Projection.{Projection, width}
@@ -38,17 +38,17 @@ use Rattle.trace.proofs.TrailerKept.{stored_trailer, same_opened}
 -- a put's step and reading
 module _ (π : Projection) (old : Content) (step reading : ℕ) where
   pub step_large : step_limit π ≤ step → (v : View) (slot : ℕ) → SlotIn v slot π old → Refuses (refusals (call_of slot (Change.Put step reading)) v) 13
-  step_large h v slot i = rw (lt_leb _ _ i.there, i.code, le-leb _ _ h)
+  step_large h v slot i = rw (lt-leb _ _ i.there, i.code, le-leb _ _ h)
 
   pub reading_large : step < step_limit π → 4096 ≤ reading
       → (v : View) (slot : ℕ) → SlotIn v slot π old → Refuses (refusals (call_of slot (Change.Put step reading)) v) 13
-  reading_large hs hr v slot i = rw (lt_leb _ _ i.there, i.code, lt_leb _ _ hs, le-leb _ _ hr)
+  reading_large hs hr v slot i = rw (lt-leb _ _ i.there, i.code, lt-leb _ _ hs, le-leb _ _ hr)
 
   pub put_changed : step < step_limit π → reading < 4096 → (w : ℕ) → w ≡ encode π (message_of step reading)
       → ChangedTo π old (Change.Put step reading) (Content.Written w 0) 0
   put_changed hs hr w e =
       record {
-        passes = λ v slot i. rw (lt_leb _ _ i.there, i.code, lt_leb _ _ hs, lt_leb _ _ hr);
+        passes = λ v slot i. rw (lt-leb _ _ i.there, i.code, lt-leb _ _ hs, lt-leb _ _ hr);
         gives = λ v slot. refl;
         leaves = λ b slot code content. rw (code, e);
       }
@@ -56,15 +56,15 @@ module _ (π : Projection) (old : Content) (step reading : ℕ) where
 -- rows behind a slot's that go by the code and by what the slot holds
 module _ (rows : Projection → Content → List Row) (π : Projection) (old : Content) (v : View) (slot : ℕ) (i : SlotIn v slot π old) where
   pub behind_refused : (k : ℕ) → Refuses (rows π old) k → Refuses (no_slot (count_of v) slot ∷ rows v.code (content_of v slot)) k
-  behind_refused k e = rw (lt_leb _ _ i.there, i.code, i.content) e
+  behind_refused k e = rw (lt-leb _ _ i.there, i.code, i.content) e
 
   behind_passes : Passes (rows π old) → Passes (no_slot (count_of v) slot ∷ rows v.code (content_of v slot))
-  behind_passes e = rw (lt_leb _ _ i.there, i.code, i.content) e
+  behind_passes e = rw (lt-leb _ _ i.there, i.code, i.content) e
 
 -- a flip's and a mark's position
 module _ (π : Projection) (old : Content) (position w m x : ℕ) (t : BitIn π old position w m x) where
   bit_passes : (v : View) (slot : ℕ) → SlotIn v slot π old → Passes (no_slot (count_of v) slot ∷ bit_rows v.code (content_of v slot) position)
-  bit_passes v slot i = behind_passes (λ π c. bit_rows π c position) π old v slot i (rw (t.content, lt_leb _ _ t.inside))
+  bit_passes v slot i = behind_passes (λ π c. bit_rows π c position) π old v slot i (rw (t.content, lt-leb _ _ t.inside))
 
   pub flip_changed : ChangedTo π old (Change.Flip position) (Content.Written (bit_xor w x) m) 0
   flip_changed = record { passes = bit_passes; gives = λ v slot. refl; leaves = λ b slot code content. rw (code, content, t.content, t.bit) }
@@ -85,7 +85,7 @@ load_changed π old seed k w m l holds few drawn =
 
 pub clear_changed : (π : Projection) (old : Content) → ChangedTo π old Change.Clear Content.Blank 0
 clear_changed π old =
-    record { passes = λ v slot i. rw (lt_leb _ _ i.there); gives = λ v slot. refl; leaves = λ b slot code content. refl }
+    record { passes = λ v slot i. rw (lt-leb _ _ i.there); gives = λ v slot. refl; leaves = λ b slot code content. refl }
 
 -- ---- a change in a buffer
 

@@ -1,7 +1,7 @@
 -- What a slot's state, word and marks say of it, test by test: bad, blank or written. A slot that isn't written and has zeros is blank, as
 -- zero is below every limit. A written slot has passed the tests of its word and marks, so both are narrow.
 use Rattle.std.proofs.Common.{◌≡◌, ℕ, ◌^◌, ◌<◌, ◌≤◌, Bool, true, false, cond, not, ◌&&◌, ◌||◌, eqb, leb, refl, arith, pow_pos, ne_eqb, le-leb, leb-false}
-use borrow.Author.Tests.{lt_leb}
+use borrow.Author.Tests.{lt-leb}
 use Rattle.codes.specs.Projection.{Projection, width}
 use Rattle.trace.specs.declared.slot.Content.{Content}
 use Rattle.trace.specs.Refusals.{is_bad}
@@ -15,27 +15,27 @@ module _ (π : Projection) (s w m : ℕ) where
 
   pub wide_word : s ≤ 1 → 2 ^ width π ≤ w → Content.Bad ≡ content_with π s w m
   unfolding content_with is_bad
-  wide_word hs hw = simp (lt_leb 2 s (omega arith), le-leb _ _ hw)
+  wide_word hs hw = simp (lt-leb 2 s (omega arith), le-leb _ _ hw)
 
   pub wide_marks : s ≤ 1 → w < 2 ^ width π → 2 ^ width π ≤ m → Content.Bad ≡ content_with π s w m
   unfolding content_with is_bad
-  wide_marks hs hw hm = simp (lt_leb 2 s (omega arith), lt_leb _ _ hw, le-leb _ _ hm)
+  wide_marks hs hw hm = simp (lt-leb 2 s (omega arith), lt-leb _ _ hw, le-leb _ _ hm)
 
   pub is_written : s ≡ 1 → w < 2 ^ width π → m < 2 ^ width π → Content.Written w m ≡ content_with π s w m
   unfolding content_with is_bad
-  is_written hs hw hm = simp (hs, lt_leb _ _ hw, lt_leb _ _ hm)
+  is_written hs hw hm = simp (hs, lt-leb _ _ hw, lt-leb _ _ hm)
 
   pub word_not_zero : s ≡ 0 → w < 2 ^ width π → m < 2 ^ width π → (w ≡ 0 → ⊥) → Content.Bad ≡ content_with π s w m
   unfolding content_with is_bad
-  word_not_zero hs hw hm h = simp (hs, lt_leb _ _ hw, lt_leb _ _ hm, ne_eqb _ _ h)
+  word_not_zero hs hw hm h = simp (hs, lt-leb _ _ hw, lt-leb _ _ hm, ne_eqb _ _ h)
 
   pub marks_not_zero : s ≡ 0 → w ≡ 0 → m < 2 ^ width π → (m ≡ 0 → ⊥) → Content.Bad ≡ content_with π s w m
   unfolding content_with is_bad
-  marks_not_zero hs hw hm h = simp (hs, hw, lt_leb _ _ (pow_pos (width π)), lt_leb _ _ hm, ne_eqb _ _ h)
+  marks_not_zero hs hw hm h = simp (hs, hw, lt-leb _ _ (pow_pos (width π)), lt-leb _ _ hm, ne_eqb _ _ h)
 
   pub is_blank : s ≡ 0 → w ≡ 0 → m ≡ 0 → Content.Blank ≡ content_with π s w m
   unfolding content_with is_bad
-  is_blank hs hw hm = simp (hs, hw, hm, lt_leb _ _ (pow_pos (width π)))
+  is_blank hs hw hm = simp (hs, hw, hm, lt-leb _ _ (pow_pos (width π)))
 
   pub content_narrow : Narrow π (content_with π s w m)
   unfolding content_with is_bad

@@ -5,7 +5,7 @@ use Rattle.std.proofs.Common.{◌≡◌, ℕ, ◌+◌, ◌*◌, ◌/◌, ◌%◌
 use mathlib.Core.Option.{Option, none, some}
 use lib.Bits.{bit_xor}
 use lib.ListN.{get_or-eq_default}
-use borrow.Author.Tests.{lt_leb}
+use borrow.Author.Tests.{lt-leb}
 use Rattle.codes.specs.declared.code.Code.{Code}
 use Rattle.codes.specs.declared.answer.Correction.{Correction}
 use Rattle.codes.specs.Answer.{refused, unless, map_answer}
@@ -78,7 +78,7 @@ module _ (p : Plain) (slot m F M : ℕ) (e : slot_of p slot ≡ Slot.written m F
   read_written =
       let π = projection_of p in
       let w = bit_xor (encode (projection_of p) m) F in
-      rw (outcome_same, plain_count p, lt_leb _ _ written_below, plain_content p slot, e, plain_code p) (read_gives π (Content.Written w M))
+      rw (outcome_same, plain_count p, lt-leb _ _ written_below, plain_content p slot, e, plain_code p) (read_gives π (Content.Written w M))
 
 -- ---- the claims
 

@@ -2,7 +2,7 @@
 -- is passed leaves the rows after it; where all pass, the slot's place lies before the trailer, and what stands there is what the call sees.
 use Rattle.std.proofs.Common.{◌≡◌, ℕ, ◌<◌, ◌≤◌, true, false, leb, List, [], ◌∷◌, length, sym, ◌∙◌, arith, le-ltb, eq-eqb, ne_eqb, le-leb, leb-true}
 use mathlib.Core.Bool.{and-eq-true_iff}
-use borrow.Author.Tests.{lt_leb}
+use borrow.Author.Tests.{lt-leb}
 use Rattle.codes.specs.declared.code.Code.{Code}
 use Rattle.codes.specs.Answer.{accepted, refused, Passes, Refuses}
 use Rattle.codes.specs.Codes.{is_code, projection}
@@ -43,7 +43,7 @@ module _ (before distance n code edition : ℕ) where
 
     pub unfit_beyond : distance ≡ distance_of n → before < distance → is_fit before distance n code edition ≡ false
     unfolding is_fit
-    unfit_beyond d h = simp (eq-eqb _ _ e, c, k, eq-eqb _ _ d, lt_leb _ _ h)
+    unfit_beyond d h = simp (eq-eqb _ _ e, c, k, eq-eqb _ _ d, lt-leb _ _ h)
 
     pub fits : distance ≡ distance_of n → distance ≤ before → is_fit before distance n code edition ≡ true
     unfolding is_fit
@@ -102,7 +102,7 @@ module _ (b : List ℕ) (slot : ℕ) where
   pub alone_found : (p : Place) (c : Code) → FoundAt b slot p c → read_content (projection c) (content_at (projection c) b p) ≡ alone_in b slot
   unfolding alone_in
   alone_found p c f =
-      let there : Passes (no_slot (count_of (view_in b)) slot ∷ []) = rw (lt_leb _ _ f.there) in
+      let there : Passes (no_slot (count_of (view_in b)) slot ∷ []) = rw (lt-leb _ _ f.there) in
       found_reads p c f
       ∙ sym (unless_passes (slot_rows_in b slot) (read_alone (view_in b) slot) (passes_append (trailer_rows b) (no_slot (count_of (view_in b)) slot ∷ []) f.opened there))
 

@@ -3,7 +3,7 @@
 -- bytes of a trace in use it is so by demand 3. Its table of refusals is a flip's but for the last row, so 7 to 11 are met alike.
 use Rattle.std.proofs.Common.{◌≡◌, ℕ, zero, suc, ◌<◌, ◌≤◌, false, ◌↔◌, List, [], ◌∷◌, ◌++◌, map, length, get_or, refl, ap, arith, length-set, get_or-set_same, set-set, le-ltb}
 use lib.Seq.{set-get_or}
-use borrow.Author.Tests.{lt_leb}
+use borrow.Author.Tests.{lt-leb}
 use Rattle.codes.specs.Answer.{Answer, accepted, refused, Row, unless, Refuses}
 use Rattle.codes.specs.Projection.{Projection, width}
 use Rattle.codes.specs.Claims.{Among}
@@ -60,11 +60,11 @@ module _ (slot : ℕ) where
     -- where the last row isn't met either, a flip and a load are accepted
     module _ (last : Row) (fits : last.met ≡ false) where
       passes : (a : Answer (List ℕ)) → unless (rows_of (view_of p) slot last) a ≡ a
-      passes a = rw (plain_count p, lt_leb _ _ w.there, never_bad p slot, plain_content p slot, w.written, fits)
+      passes a = rw (plain_count p, lt-leb _ _ w.there, never_bad p slot, plain_content p slot, w.written, fits)
 
     flip_step : (position : ℕ) → position < width (projection_of p) → on_plain (flip slot position) p ≡ after (accepted []) (flipped_at (position ∷ []) p)
     unfolding on_plain
-    flip_step position inside = rw (passes (no_position (view_of p).code position) (rw plain_code (lt_leb _ _ inside)) (accepted []))
+    flip_step position inside = rw (passes (no_position (view_of p).code position) (rw plain_code (lt-leb _ _ inside)) (accepted []))
 
     load_step : (seed k : ℕ) → k ≤ width (projection_of p)
         → on_plain (load slot seed k) p ≡ after (accepted (handed_back k seed ∷ [])) (flipped_at (positions_of (projection_of p) seed k) p)

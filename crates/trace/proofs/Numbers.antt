@@ -1,7 +1,7 @@
 -- Numbers in bytes, high byte first: a number's bytes give it back, and a loop may take or give them one at a time.
 -- A byte more at the end multiplies the number by 256 and adds the byte, which is how the bytes of a number are defined; so both ways are
 -- one step of the same recursion.
-use Rattle.std.proofs.Common.{◌≡◌, ℕ, zero, suc, ◌+◌, ◌*◌, ◌/◌, ◌%◌, ◌^◌, ◌<◌, ◌≤◌, List, [], ◌∷◌, ◌++◌, length, get_or, take, drop, set, replicate, refl, ◌∙◌, append_assoc, mul-le-mul_right, div-lt_iff_lt-mul, pow-suc, div-add-mod', add-one, arith, length-append, length-take-le, drop_cons, drop_at}
+use Rattle.std.proofs.Common.{◌≡◌, ℕ, zero, suc, ◌+◌, ◌*◌, ◌/◌, ◌%◌, ◌^◌, ◌<◌, ◌≤◌, List, [], ◌∷◌, ◌++◌, length, get_or, take, drop, set, replicate, refl, ◌∙◌, append_assoc, mul-le-mul_right, div-lt_iff_lt-mul, pow-suc, div-add-mod', add-one, arith, length-append, length-take-le, drop-cons, drop_at}
 use native.Mathlib.Nat.{pow-le-pow_right}
 use lib.ListN.{replicate-append-replicate}
 use lib.Seq.{set_split}
@@ -33,7 +33,7 @@ bytes_zero (suc k) = rw (bytes_zero k) (rw add-one at (replicate-append-replicat
 -- a loop that takes bytes from the front: the next one
 pub number_next : (v : ℕ) (xs : List ℕ) (i : ℕ) → i < length xs → number_from v (drop i xs) ≡ number_from (v * 256 + get_or xs i 0) (drop (i + 1) xs)
 unfolding number_from
-number_next v xs i h = rw (add-one, drop_cons xs i 0 h)
+number_next v xs i h = rw (add-one, drop-cons xs i 0 h)
 
 pub number_lt : (v x i : ℕ) → v < 256 ^ i → x < 256 → v * 256 + x < 256 ^ (i + 1)
 number_lt v x i hv hx = rw (add-one, pow-suc) (omega (arith, mul-le-mul_right {m = suc v} 256 hv))

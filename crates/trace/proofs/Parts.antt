@@ -1,6 +1,6 @@
 -- Parts of a buffer that are read and written over. A buffer is split at a part's place: what lies before it, the part and what follows are
 -- then lists of their own, so that what is read is the part, and what is written stands in its place.
-use Rattle.std.proofs.Common.{◌≡◌, ℕ, ◌+◌, ◌-◌, ◌^◌, ◌<◌, ◌≤◌, List, ◌++◌, length, take, drop, sym, ◌∙◌, append_assoc, arith, length-append, length_drop, length-take, length-take-le, drop-drop, take_at, drop_at}
+use Rattle.std.proofs.Common.{◌≡◌, ℕ, ◌+◌, ◌-◌, ◌^◌, ◌<◌, ◌≤◌, List, ◌++◌, length, take, drop, sym, ◌∙◌, append_assoc, arith, length-append, length-drop, length-take, length-take-le, drop-drop, take_at, drop_at}
 use lib.Seq.{drop-append-add}
 use borrow.Rule.Slice.PartMut.{mid_of, put_mid}
 use Rattle.trace.specs.Layout.{bytes_of, part, number_at, overwrite}
@@ -11,7 +11,7 @@ use Rattle.trace.proofs.Numbers.{length_bytes, number_bytes}
 -- a part of k bytes has k bytes
 pub length_part : (b : List ℕ) (at k : ℕ) → at + k ≤ length b → length (part b at k) ≡ k
 unfolding part
-length_part b at k h = length-take-le k (drop at b) (rw length_drop (omega arith))
+length_part b at k h = length-take-le k (drop at b) (rw length-drop (omega arith))
 
 pub part_middle : (pre x post : List ℕ) (k at : ℕ) → length pre ≡ at → length x ≡ k → part (pre ++ (x ++ post)) at k ≡ x
 unfolding part
@@ -52,7 +52,7 @@ overwrite_join b xs ys at n e h =
 module _ (b xs : List ℕ) (at : ℕ) where
   pub length_overwrite : at + length xs ≤ length b → length (overwrite b at xs) ≡ length b
   unfolding overwrite
-  length_overwrite h = simp (length-append, length-take, length_drop) (omega arith)
+  length_overwrite h = simp (length-append, length-take, length-drop) (omega arith)
 
   pub part_behind : (from k : ℕ) → at + length xs ≤ from → from ≤ length b → part (overwrite b at xs) from k ≡ part b from k
   unfolding part

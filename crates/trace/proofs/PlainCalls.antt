@@ -1,10 +1,10 @@
 -- What calls make of the plain trace. An accepted call leaves what its definition says, with another slot in the place of its own, which its rows say is
 -- there; a refused one leaves the trace. So a message that was put stays in its slot through any list of calls of which none overwrites
 -- it: by induction on the list, each call leaves the slot, or changes its F or M.
-use Rattle.std.proofs.Common.{◌≡◌, ℕ, zero, suc, ◌+◌, ◌-◌, ◌*◌, ◌<◌, ◌≤◌, Bool, true, false, eqb, List, [], ◌∷◌, length, get_or, sym, refl, ap, ◌∙◌, inl, inr, add_zero, add-suc, suc-add, arith, length-set, get_or-set_other, get_or-set_same, le-ltb, lt-ltb, eqb-true}
+use Rattle.std.proofs.Common.{◌≡◌, ℕ, zero, suc, ◌+◌, ◌-◌, ◌*◌, ◌<◌, ◌≤◌, Bool, true, false, eqb, List, [], ◌∷◌, length, get_or, sym, refl, ap, ◌∙◌, inl, inr, add-zero, add-suc, suc-add, arith, length-set, get_or-set_other, get_or-set_same, le-ltb, lt-ltb, eqb-true}
 use lib.ListN.{length-replicate}
 use lib.Bits.{bit_xor}
-use borrow.Author.Tests.{eqb-false, lt_leb}
+use borrow.Author.Tests.{eqb-false, lt-leb}
 use Rattle.codes.specs.Answer.{Answer, accepted, refused, unless}
 use Rattle.codes.specs.Projection.{Projection, width}
 use Rattle.codes.specs.Word.{bit}
@@ -65,7 +65,7 @@ list_became start (step ∷ steps) (reading ∷ readings) p inside even =
     own : {q r : Plain} → slot_of q start ≡ Slot.written (message_of step reading) 0 0 → SlotsBecame q (suc start) steps readings r
         → (i : ℕ) → i < length (step ∷ steps)
         → slot_of r (start + i) ≡ Slot.written (get_or (step ∷ steps) i 0 * 4096 + get_or (reading ∷ readings) i 0) 0 0
-    own first rest zero h = rw add_zero (rest.others start (λ k. omega arith) ∙ first)
+    own first rest zero h = rw add-zero (rest.others start (λ k. omega arith) ∙ first)
     own first rest (suc i) h = rw (add-suc, ← suc-add) (rest.own i (omega arith))
 
 module _ (p : Plain) (slot : ℕ) where
@@ -118,11 +118,11 @@ module _ (p : Plain) (slot : ℕ) where
   module _ (seed k m F M : ℕ) (there : slot < length p.slots) (written : slot_of p slot ≡ Slot.written m F M) where
     load_fits : k ≤ width (projection_of p) → (on_plain (load slot seed k) p).answer ≡ accepted (handed_back k seed ∷ [])
     unfolding on_plain
-    load_fits few = rw (outcome_answer, plain_count p, lt_leb _ _ there, plain_content p slot, written, plain_code p, le-ltb _ _ few)
+    load_fits few = rw (outcome_answer, plain_count p, lt-leb _ _ there, plain_content p slot, written, plain_code p, le-ltb _ _ few)
 
     overloads : width (projection_of p) < k → (on_plain (load slot seed k) p).answer ≡ refused 14
     unfolding on_plain
-    overloads many = rw (outcome_answer, plain_count p, lt_leb _ _ there, plain_content p slot, written, plain_code p, lt-ltb _ _ many)
+    overloads many = rw (outcome_answer, plain_count p, lt-leb _ _ there, plain_content p slot, written, plain_code p, lt-ltb _ _ many)
 
 reads : (p : Plain) (slot : ℕ) → (on_plain (read slot) p).state ≡ p
 unfolding on_plain
@@ -145,19 +145,19 @@ again π position (Slot.written m F M) = ap (Slot.written m F) (or_twice M (bit 
 module _ (p : Plain) (slot position seed k : ℕ) (there : slot < length p.slots) (blank : slot_of p slot ≡ Slot.blank) where
   read_blank : (on_plain (read slot) p).answer ≡ refused 11
   unfolding on_plain
-  read_blank = rw (outcome_answer, plain_count p, lt_leb _ _ there, plain_content p slot, blank)
+  read_blank = rw (outcome_answer, plain_count p, lt-leb _ _ there, plain_content p slot, blank)
 
   flip_blank : (on_plain (flip slot position) p).answer ≡ refused 11
   unfolding on_plain
-  flip_blank = rw (outcome_answer, plain_count p, lt_leb _ _ there, plain_content p slot, blank)
+  flip_blank = rw (outcome_answer, plain_count p, lt-leb _ _ there, plain_content p slot, blank)
 
   mark_blank : (on_plain (mark slot position) p).answer ≡ refused 11
   unfolding on_plain
-  mark_blank = rw (outcome_answer, plain_count p, lt_leb _ _ there, plain_content p slot, blank)
+  mark_blank = rw (outcome_answer, plain_count p, lt-leb _ _ there, plain_content p slot, blank)
 
   load_blank : (on_plain (load slot seed k) p).answer ≡ refused 11
   unfolding on_plain
-  load_blank = rw (outcome_answer, plain_count p, lt_leb _ _ there, plain_content p slot, blank)
+  load_blank = rw (outcome_answer, plain_count p, lt-leb _ _ there, plain_content p slot, blank)
 
 made_blank : (found : List ℕ) (m : Making) → (length (fresh m found).slots ≡ m.slots) × ((slot : ℕ) → slot_of (fresh m found) slot ≡ Slot.blank)
 unfolding fresh

@@ -1,7 +1,7 @@
 -- The bytes of slots, whatever stands in them, between what lies before and behind them: what is read at a slot's place, and what storing there
 -- makes of them. By induction on the slots, each slot that is passed joins what lies before: so slot i stands between two lists, of which the
 -- first ends at its place.
-use Rattle.std.proofs.Common.{◌≡◌, ℕ, zero, suc, ◌+◌, ◌*◌, ◌<◌, ◌≤◌, List, [], ◌∷◌, ◌++◌, length, get_or, set, sym, refl, ap, ◌∙◌, append_assoc, append-nil, mul_zero, mul-suc, arith, length-append}
+use Rattle.std.proofs.Common.{◌≡◌, ℕ, zero, suc, ◌+◌, ◌*◌, ◌<◌, ◌≤◌, List, [], ◌∷◌, ◌++◌, length, get_or, set, sym, refl, ap, ◌∙◌, append_assoc, append-nil, mul-zero, mul-suc, arith, length-append}
 use Rattle.trace.specs.declared.slot.Content.{Content}
 use Rattle.trace.specs.Layout.{state_size, word_size, slot_size, distance_of, part, overwrite, SlotBytes, content_bytes, each, whole, body, place_from, store_at}
 use Rattle.trace.proofs.Numbers.{length_bytes}
@@ -24,14 +24,14 @@ module _ (f : SlotBytes → List ℕ) (k : ℕ) where
 
   length_each : (ss : List SlotBytes) → Wide ss → length (each f ss) ≡ k * length ss
   unfolding each
-  length_each [] w = sym (mul_zero k)
+  length_each [] w = sym (mul-zero k)
   length_each (s ∷ ss) w = simp (length-append, w.0, length_each ss w.1, mul-suc) (omega arith)
 
   around : (pre post : List ℕ) (ss : List SlotBytes) (i : ℕ) → i < length ss → Wide ss → Around f k pre post ss i
   unfolding each
   around pre post [] i h w = absurd (omega arith)
   around pre post (x ∷ ss) zero h w =
-      record { before = pre; beyond = each f ss ++ post; place = rw mul_zero (omega arith); now = λ d. simp append_assoc; then = λ s. simp append_assoc }
+      record { before = pre; beyond = each f ss ++ post; place = rw mul-zero (omega arith); now = λ d. simp append_assoc; then = λ s. simp append_assoc }
   around pre post (x ∷ ss) (suc i) h w =
       let r = around (pre ++ f x) post ss i (omega arith) w.1 in
       record {

@@ -2,9 +2,9 @@
 -- plain trace, and storing what a slot holds is storing the slot. The bytes are a front and a trailer ('Trailers'), and slots between the
 -- free bytes and the trailer ('Slots'); a number in its bytes comes back, as it fits.
 use Rattle.std.proofs.Common.{◌≡◌, ℕ, zero, suc, ◌+◌, ◌^◌, ◌<◌, ◌≤◌, true, List, [], ◌∷◌, ◌++◌, map, length, set, sym, refl, ◌∙◌, append_assoc, arith, length-append, length-set, pow_pos, pow_mono, le-ltb, eq-eqb, le-leb}
-use lib.ListN.{length-map, get_or_map}
+use lib.ListN.{length-map, get_or-map}
 use lib.Bits.{xor_lt}
-use borrow.Author.Tests.{lt_leb}
+use borrow.Author.Tests.{lt-leb}
 use Rattle.codes.specs.declared.code.Code.{Code}
 use Rattle.codes.specs.Answer.{Passes}
 use Rattle.codes.specs.Projection.{Projection, width, message_bits}
@@ -61,11 +61,11 @@ module _ (c : Code) where
       ≡ holds (projection c) s
   unfolding content_with is_bad
   slot_holds Slot.blank f =
-      rw (number_bytes 1 0 (omega arith), number_bytes 5 0 (omega arith)) (simp (lt_leb _ _ (pow_pos (width (projection c)))))
+      rw (number_bytes 1 0 (omega arith), number_bytes 5 0 (omega arith)) (simp (lt-leb _ _ (pow_pos (width (projection c)))))
   slot_holds (Slot.written m F M) f =
       let narrow = xor_lt (width (projection c)) (encode (projection c) m) F (encode_lt c m) f.1 in
       rw (number_bytes 1 1 (omega arith), number_bytes 5 _ (five_bytes _ narrow), number_bytes 5 M (five_bytes M f.2))
-      (simp (lt_leb _ _ narrow, lt_leb _ _ f.2))
+      (simp (lt-leb _ _ narrow, lt-leb _ _ f.2))
 
 -- ---- the trailer of a plain trace's bytes
 
@@ -140,7 +140,7 @@ module _ (p : Plain) (s : Sound p) where
           state_part p.free end ss all i there d,
           word_part p.free end ss all i there d,
           marks_part p.free end ss all i there d,
-          get_or_map (stored_as (projection_of p)) p.slots i Slot.blank,
+          get_or-map (stored_as (projection_of p)) p.slots i Slot.blank,
         )
         (slot_holds (code_of p.code) (slot_of p i) (s.slots i))
 
@@ -160,5 +160,5 @@ module _ (p : Plain) (s : Sound p) where
   seen_alike =
       let same = tabulated (λ i. content_at (projection_in (bytes p)) (bytes p) (place_in (bytes p) i)) (count_in (bytes p))
       (map (holds (projection_of p)) p.slots) Content.Blank (length-map p.slots (holds (projection_of p)) ∙ sym count_in_lem)
-      (λ i h. content_in i (rw count_in_lem at h) ∙ sym (get_or_map (holds (projection_of p)) p.slots i Slot.blank)) in
+      (λ i h. content_in i (rw count_in_lem at h) ∙ sym (get_or-map (holds (projection_of p)) p.slots i Slot.blank)) in
       λ i. record { code = projection_in_lem i; slots = same i }

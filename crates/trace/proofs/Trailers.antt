@@ -1,7 +1,7 @@
 -- The trailer: the numbers that a buffer has which ends with one, and the stores that write one. Each number begins where those before it end,
 -- and numbers that are stored one behind the other are stored at once; zeros and trailer, which reach to the buffer's end, leave the bytes
 -- before them.
-use Rattle.std.proofs.Common.{◌≡◌, ℕ, ◌+◌, ◌-◌, ◌^◌, ◌<◌, ◌≤◌, List, [], ◌++◌, length, take, refl, ap, ◌∙◌, append_assoc, append-nil, add_zero, arith, length-append}
+use Rattle.std.proofs.Common.{◌≡◌, ℕ, ◌+◌, ◌-◌, ◌^◌, ◌<◌, ◌≤◌, List, [], ◌++◌, length, take, refl, ap, ◌∙◌, append_assoc, append-nil, add-zero, arith, length-append}
 use lib.Seq.{drop-length}
 use Rattle.trace.specs.Layout.{bytes_of, number_at, overwrite, trailer_size, distance_of, needed_for}
 use Rattle.trace.specs.Layout.{trailer, trailer_at, distance_in, count_in, code_in, edition_in, made}
@@ -27,7 +27,7 @@ module _ (front : List ℕ) (code n : ℕ) where
   pub ended_distance : n ≤ 4000 → distance_in (front ++ trailer code n) ≡ distance_of n
   unfolding trailer
   ended_distance few =
-      rw (← add_zero (trailer_at (front ++ trailer code n)))
+      rw (← add-zero (trailer_at (front ++ trailer code n)))
       (field [] (bytes_of 2 n ++ (bytes_of 1 code ++ bytes_of 1 1)) 4 (distance_of n) 0 refl refl (omega arith))
 
   pub ended_count : n ≤ 4000 → count_in (front ++ trailer code n) ≡ n

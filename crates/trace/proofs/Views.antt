@@ -1,8 +1,8 @@
 -- The slots of a view of a buffer: as many as the trailer says, and each what stands at the slot's place. A list that is made number by number
 -- has at each number what the function gives there, so it is any list of that length which has the same. The view of a plain trace has its
 -- slots one by one.
-use Rattle.std.proofs.Common.{◌≡◌, ℕ, zero, suc, ◌+◌, ◌<◌, List, map, length, get_or, sym, refl, ◌∙◌, add_zero, add-suc, suc-add, zero-add, arith, ext_get_or}
-use lib.ListN.{length-map, get_or_map}
+use Rattle.std.proofs.Common.{◌≡◌, ℕ, zero, suc, ◌+◌, ◌<◌, List, map, length, get_or, sym, refl, ◌∙◌, add-zero, add-suc, suc-add, zero-add, arith, ext_get_or}
+use lib.ListN.{length-map, get_or-map}
 use Rattle.trace.specs.declared.slot.Content.{Content}
 use Rattle.trace.specs.Lists.{span}
 use Rattle.trace.specs.Layout.{count_in, place_in}
@@ -19,7 +19,7 @@ module _ {A : Type 0} (f : ℕ → A) where
 
   get_d_span : (k n i : ℕ) (d : A) → i < n → get_or (map f (span k n)) i d ≡ f (k + i)
   get_d_span k zero i d h = absurd (omega arith)
-  get_d_span k (suc n) zero d h = rw add_zero
+  get_d_span k (suc n) zero d h = rw add-zero
   get_d_span k (suc n) (suc i) d h = get_d_span (suc k) n i d (omega arith) ∙ rw (suc-add, add-suc)
 
   get_d_first : (n i : ℕ) (d : A) → i < n → get_or (map f (span 0 n)) i d ≡ f i
@@ -58,4 +58,4 @@ module _ (p : Plain) where
 
   pub plain_content : (slot : ℕ) → content_of (view_of p) slot ≡ holds (projection_of p) (slot_of p slot)
   unfolding view_of
-  plain_content slot = get_or_map (holds (projection_of p)) p.slots slot Slot.blank
+  plain_content slot = get_or-map (holds (projection_of p)) p.slots slot Slot.blank

@@ -1,5 +1,5 @@
 -- `codes::word::walk_columns` meets its contract: at the loop's head everything is collected of the columns from i on.
-use Rattle.std.proofs.Common.{◌≡◌, ℕ, suc, ◌-◌, ◌≤◌, List, length, drop, lt_of_lt_of_le, arith, length_drop, pow_mono}
+use Rattle.std.proofs.Common.{◌≡◌, ℕ, suc, ◌-◌, ◌≤◌, List, length, drop, lt_of_lt_of_le, arith, length-drop, pow_mono}
 use Rattle.codes.specs.declared.code.Code.{Code}
 use Rattle.codes.specs.declared.word.Walk.{Walk}
 use Rattle.codes.specs.Projection.{size}
@@ -37,7 +37,7 @@ with-column-requires c κs =
     let a = c.before.before.args in
     let cs = held (projection a.code) a.t2 in
     let short : length (drop l.i cs) ≤ 63 =
-    omega (arith, length_drop l.i cs, length_held (projection a.code) a.t2 (omega (arith, size_le a.code)), size_le a.code) in
+    omega (arith, length-drop l.i cs, length_held (projection a.code) a.t2 (omega (arith, size_le a.code)), size_le a.code) in
     (omega arith, lt_of_lt_of_le (parities_lt l.invariant.1) (pow_mono {i = length (drop l.i cs)} {j = 63} short))
 
 loop-less : tie.Need-loop-smaller invariant-loop decreases-loop

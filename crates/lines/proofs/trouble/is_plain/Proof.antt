@@ -1,13 +1,13 @@
 -- `lines::trouble::is_plain` meets its contract: each test is one of the definition's.
-use borrow.Author.Tests.{le-leb, lt_leb}
+use borrow.Author.Tests.{le-leb, lt-leb}
 use Rattle.lines.proofs.trouble.is_plain.Statement.{statement}
 use Rattle.lines.proofs.trouble.is_plain.Tie as tie
 
 returns : tie.Need-returns
-returns c = let byte = c.before.args.byte in simp (lt_leb 32 byte c.if1.true)
+returns c = let byte = c.before.args.byte in simp (lt-leb 32 byte c.if1.true)
 
 returns-2 : tie.Need-returns-2
-returns-2 c = let byte = c.before.before.args.byte in simp (le-leb 32 byte c.before.if1.false, lt_leb byte 126 c.if2.true)
+returns-2 c = let byte = c.before.before.args.byte in simp (le-leb 32 byte c.before.if1.false, lt-leb byte 126 c.if2.true)
 
 returns-3 : tie.Need-returns-3
 returns-3 c = let byte = c.before.before.args.byte in simp (le-leb 32 byte c.before.if1.false, le-leb byte 126 c.if2.false)

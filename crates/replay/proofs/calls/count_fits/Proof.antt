@@ -3,7 +3,7 @@ use mathlib.Core.Path.{◌≡◌}
 use mathlib.Core.Bool.{false}
 use native.Mathlib.Omega.{arith}
 use lib.Dec.{eqb}
-use borrow.Author.Tests.{lt-ltb, le-ltb, le-leb, lt_leb, ne_eqb}
+use borrow.Author.Tests.{lt-ltb, le-ltb, le-leb, lt-leb, ne_eqb}
 use Rattle.replay.specs.Numbers.{count_fits}
 use borrow.Author.Rules.{rules}
 use Rattle.replay.proofs.calls.count_fits.Statement.{statement}
@@ -31,7 +31,7 @@ unfolding count_fits
 returns-3 c =
     let start = c.before.before.before in
     let list : start.args.kind ≡ 7 = omega arith in
-    simp (list, lt_leb _ _ c.if3.true)
+    simp (list, lt-leb _ _ c.if3.true)
 
 returns-4 : tie.Need-returns-4
 unfolding count_fits

@@ -1,7 +1,7 @@
 -- `replay::runs::run_next` meets its contract: a call, a list of puts, or no call.
 use mathlib.Core.Path.{refl}
 use native.Mathlib.Omega.{arith}
-use lib.ListN.{length-take, length_drop}
+use lib.ListN.{length-take, length-drop}
 use Rattle.replay.specs.declared.calls.Next.{Next}
 use Rattle.replay.specs.ContractsOfSteps.{NextIn}
 use Rattle.replay.proofs.FirstCalls.{play_no_call, runs_next}
@@ -46,7 +46,7 @@ part_run_list_end c = let begins = next_list c.before.before in omega arith
 run-list-requires : tie.Need-run-list-requires
 run-list-requires c κs =
     let begins = next_list c.before.before.before.before in
-    simp (length-take, length_drop) (omega arith)
+    simp (length-take, length-drop) (omega arith)
 
 next-run-requires-2 : tie.Need-next-run-requires-2
 next-run-requires-2 c κs = search rules

@@ -3,7 +3,7 @@ use mathlib.Core.Path.{◌≡◌, sym, ◌∙◌, ap}
 use mathlib.Core.List.{List}
 use Prim.Native.Nat.{ℕ, ◌+◌, ◌-◌, ◌≤◌}
 use native.Mathlib.Omega.{arith}
-use native.Mathlib.Nat.{add_zero}
+use native.Mathlib.Nat.{add-zero}
 use lib.ListN.{length, drop, drop_of_length-le}
 use borrow.Author.Tests.{not-true, not-false}
 use Rattle.script.specs.declared.numbers.Counted.{Counted}
@@ -82,7 +82,7 @@ unfolding hex_bytes
 returns-2 c =
     let text = c.before.before.before.before.args.text.now in
     let l = c.before.loop in
-    rw (← l.invariant.3, drop_of_length-le text {i = l.at} c.loop-test.false) (ap Counted.Are (sym (add_zero l.n)))
+    rw (← l.invariant.3, drop_of_length-le text {i = l.at} c.loop-test.false) (ap Counted.Are (sym (add-zero l.n)))
 
 pub count_pairs_spec : {M : Type 1} → statement M
 count_pairs_spec =

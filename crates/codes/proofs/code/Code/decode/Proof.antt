@@ -1,6 +1,6 @@
 -- `codes::Code::decode` meets its contract: the rows of its refusals in order, and the message that the columns say.
 use Rattle.std.proofs.Common.{◌≡◌, ◌^◌, false, leb, sym, ap, ◌∙◌, rules, le-leb}
-use borrow.Author.Tests.{lt_leb}
+use borrow.Author.Tests.{lt-leb}
 use Rattle.symbols.specs.Symbol.{has_bit}
 use Rattle.codes.specs.Projection.{width}
 use Rattle.codes.specs.Word.{word, is_codeword}
@@ -15,7 +15,7 @@ use Rattle.codes.proofs.code.Code.decode.Tie as tie
 word_fits : (e : tie.Else1) → leb (2 ^ width (projection e.before.before.args.self)) e.before.before.args.word ≡ false
 word_fits e =
     let a = e.before.before.args in
-    lt_leb (2 ^ width (projection a.self)) a.word (rw e.before.word_limit.ensures at e.if1.false)
+    lt-leb (2 ^ width (projection a.self)) a.word (rw e.before.word_limit.ensures at e.if1.false)
 
 -- the function's entry, from where it is known whether the word is a codeword, and what is known there
 abbrev entry : tie.After-is-codeword → tie.Start

@@ -1,6 +1,6 @@
 -- `codes::Code::encode` meets its contract: the one row of its refusals, and the codeword's columns as a number.
 use Rattle.std.proofs.Common.{◌^◌, rules, le-leb}
-use borrow.Author.Tests.{lt_leb}
+use borrow.Author.Tests.{lt-leb}
 use Rattle.codes.specs.Projection.{message_bits}
 use Rattle.codes.specs.Message.{encode}
 use Rattle.codes.specs.Codes.{projection}
@@ -27,7 +27,7 @@ returns-2 c =
     let a = c.before.before.before.before.args in
     let π = projection a.self in
     let fits = rw c.before.before.before.message_limit.ensures at c.before.before.if1.false in
-    rw (c.pack.ensures, c.before.codeword.ensures, lt_leb (2 ^ message_bits π) a.message fits)
+    rw (c.pack.ensures, c.before.codeword.ensures, lt-leb (2 ^ message_bits π) a.message fits)
 
 pub encode_spec : {M : Type 1} → statement M
 encode_spec =
