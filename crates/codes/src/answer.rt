@@ -3,7 +3,7 @@ ghost use Rattle.std.specs.Prelude.{◌≡◌};
 ghost use Rattle.codes.specs.Codes.{refusal_number};
 
 // Why a call is refused.
-#[derive(Drop)]
+#[derive(Clone, Copy)]
 pub enum Refusal {
     UnknownCode,
     MessageTooLarge,
@@ -28,21 +28,21 @@ impl Refusal {
 }
 
 // Of writing: the codeword.
-#[derive(Drop)]
+#[derive(Clone, Copy)]
 pub enum Encoded {
     Word(u64),
     Refused(Refusal),
 }
 
 // Of strict reading: the message.
-#[derive(Drop)]
+#[derive(Clone, Copy)]
 pub enum Decoded {
     Message(u64),
     Refused(Refusal),
 }
 
 // The near codeword, its message, the unmarked positions where it differs from the word, and the number of marks.
-#[derive(Drop)]
+#[derive(Clone, Copy)]
 pub struct Correction {
     pub codeword: u64,
     pub message: u64,
@@ -51,7 +51,7 @@ pub struct Correction {
 }
 
 // Of mending.
-#[derive(Drop)]
+#[derive(Clone, Copy)]
 pub enum Corrected {
     Near(Correction),
     Refused(Refusal),

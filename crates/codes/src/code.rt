@@ -6,7 +6,7 @@ ghost use Rattle.codes.specs.Codes.{projection, step_limit, code_found};
 use crate::answer::Refusal;
 
 // A code of 36 or 40 bits under the top rule O or E.
-#[derive(Drop)]
+#[derive(Clone, Copy)]
 pub enum Code {
     O36,
     E36,
@@ -15,7 +15,7 @@ pub enum Code {
 }
 
 // What a code's number stands for.
-#[derive(Drop)]
+#[derive(Clone, Copy)]
 pub enum CodeFound {
     Code(Code),
     Refused(Refusal),

@@ -20,14 +20,14 @@ use crate::word::{Walk, lacking};
 pub(crate) const NONE: u64 = 0x100_0000_0000;
 
 // A column of the check matrix: its place, and its multiples.
-#[derive(Drop)]
+#[derive(Clone, Copy)]
 pub(crate) struct MatrixColumn {
     pub place: usize,
     pub multiples: u32,
 }
 
 // A word that is tried: its packed syndrome, and whether its top row's parity is not the codeword's.
-#[derive(Drop)]
+#[derive(Clone, Copy)]
 pub(crate) struct Trial {
     pub word: u64,
     pub syndrome: u8,

@@ -17,7 +17,7 @@ pub(crate) const ROOM: usize = 10;
 
 // What one walk over the columns of a word hands on: each column's parity, the first column's lowest, the top row's parity, and the syndrome,
 // packed with its first row highest.
-#[derive(Drop)]
+#[derive(Clone, Copy)]
 pub struct Walk {
     pub parities: u64,
     pub top: bool,

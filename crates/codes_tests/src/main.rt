@@ -1,5 +1,7 @@
 // Writing, strict reading and the walk over a word's columns, tried: the scope's words to try that are no theorems, the words of each free column,
 // messages there and back, and what the walk hands on.
+#![tactic(auto)]
+
 ghost use Rattle.std.specs.Prelude.{◌≤◌, ◌<◌};
 
 use codes::{CodeFound, Decoded, Encoded};

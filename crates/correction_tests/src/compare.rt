@@ -21,7 +21,7 @@ pub(crate) const LOADED: u64 = 100;
 pub(crate) const REFUSED: u64 = 8;
 
 // What `correct` and `decode` give for each word.
-#[derive(Drop)]
+#[derive(Clone, Copy)]
 pub(crate) struct Outcomes {
     pub corrected: [u64; WORDS],
     pub decoded: [u64; WORDS],

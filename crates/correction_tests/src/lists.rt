@@ -32,7 +32,7 @@ const BYTES: usize = trace::SLOT * SLOTS + trace::TRAILER;
 pub(crate) const ALL: usize = LISTS * SLOTS;
 
 // A trace after a list of calls, and its slots as they should be then.
-#[derive(Drop)]
+#[derive(Clone, Copy)]
 pub(crate) struct Trial {
     bytes: [u8; BYTES],
     slots: [Slot; SLOTS],

@@ -2,6 +2,8 @@
 // code by the scope's definition, compares it with the library's, and holds it against every word that is tried.
 // Most of the words are samples, tried by `correct` and `decode`; the others are left in slots by random lists of trace calls, whose
 // answers and bytes are compared too, and are read besides. The scope's words to try that are no theorems are shown.
+#![tactic(auto)]
+
 mod codewords;
 mod compare;
 mod draws;

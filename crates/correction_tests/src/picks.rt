@@ -8,7 +8,7 @@ use crate::words::{WIDEST, bit, least, width};
 const PLACES: usize = WIDEST as usize;
 
 // The picked positions, each a one, and the number handed back.
-#[derive(Drop)]
+#[derive(Clone, Copy)]
 pub(crate) struct Picks {
     pub positions: u64,
     pub number: u64,

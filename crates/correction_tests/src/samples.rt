@@ -21,7 +21,7 @@ pub(crate) const SAMPLES: usize = NOISE + 54;
 const KINDS: u64 = 20;
 
 // A word and its marks.
-#[derive(Drop)]
+#[derive(Clone, Copy)]
 struct Sample {
     word: u64,
     marks: u64,

@@ -12,7 +12,7 @@ pub(crate) const WORDS: usize = SAMPLES + ALL;
 
 // What the search found for each word: how many codewords are near, 0, 1, or 2 for more than one, and the message of the last of them;
 // and 1 more than the message of the codeword that equals the word, or 0. Then how many messages the library encodes otherwise.
-#[derive(Drop)]
+#[derive(Clone, Copy)]
 pub(crate) struct Found {
     pub near: [u64; WORDS],
     pub kept: [u64; WORDS],

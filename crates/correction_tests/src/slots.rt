@@ -7,7 +7,7 @@ use crate::search::counted;
 use crate::words::{READINGS, bit, steps, sum, width};
 
 // A slot; the message is the one that was put last. A blank slot's numbers are 0.
-#[derive(Drop)]
+#[derive(Clone, Copy)]
 pub(crate) struct Slot {
     pub written: bool,
     pub message: u64,
@@ -16,7 +16,7 @@ pub(crate) struct Slot {
 }
 
 // A call that changes a slot.
-#[derive(Drop)]
+#[derive(Clone, Copy)]
 pub(crate) enum Call {
     // Step and reading.
     Put(u64, u64),
@@ -29,7 +29,7 @@ pub(crate) enum Call {
 }
 
 // What a call answers: 0 where it is accepted, otherwise the refusal's number; and the number that a load hands back, otherwise 0.
-#[derive(Drop)]
+#[derive(Clone, Copy)]
 pub(crate) struct Answer {
     pub refusal: u64,
     pub number: u64,

@@ -1,4 +1,6 @@
 // Files and standard input, read and written for the programs. Whatever fails is told apart from the end of a file, and gets a line on standard error that says why.
+#![tactic(auto)]
+
 ghost use Rattle.std.specs.Prelude.{◌≤◌, length};
 ghost use Rattle.files.specs.Files.{Within};
 ghost use Rattle.files.specs.ContractsOfSteps.{Beyond};
@@ -6,7 +8,7 @@ ghost use Rattle.files.specs.ContractsOfSteps.{Beyond};
 use libc::{STDIN_FILENO, STDOUT_FILENO};
 
 // How many bytes were read, or that a read failed.
-#[derive(Drop)]
+#[derive(Clone, Copy)]
 pub enum Input {
     Bytes(usize),
     Failed,

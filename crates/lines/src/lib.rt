@@ -1,4 +1,6 @@
 // What the programs print, to the byte: the listing of a trace, the answers to a script's lines, a survey in words.
+#![tactic(auto)]
+
 mod answers;
 mod input;
 mod line;

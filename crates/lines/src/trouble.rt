@@ -8,7 +8,7 @@ use crate::answers::ANSWER;
 use crate::text::{write_hex, write_numbers, write_text};
 
 // Why a line can't be played: it means nothing, it asks for a buffer that isn't lent, its file can't be read, or can't be written.
-#[derive(Drop)]
+#[derive(Clone, Copy)]
 pub enum Trouble {
     Unreadable,
     NotLent,

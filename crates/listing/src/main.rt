@@ -1,4 +1,6 @@
 // Lists the trace that standard input holds: a line for each slot, and a total.
+#![tactic(auto)]
+
 use files::Input;
 
 fn main() {

@@ -1,5 +1,7 @@
 // Listings of standard input, which has one byte more than is listed, and of files that are made here: refused ones, the longest one and
 // one byte more, free bytes before the slots, readings at both ends of the range, every status under every code, and the most slots.
+#![tactic(auto)]
+
 ghost use Rattle.std.specs.Prelude.{◌≡◌, ◌≤◌, length, take};
 
 use libc::{STDIN_FILENO, STDOUT_FILENO};

@@ -7,7 +7,7 @@ ghost use Rattle.replay.specs.ContractsOfSteps.{numbers_in, NumbersOf, Writes};
 use trace::{Done, LoadAnswer, ReadAnswer, Refusal, Survey, SurveyAnswer};
 
 // An answer: the refusal's number or 0, the count of values, and the values, 0 past the last.
-#[derive(Drop)]
+#[derive(Clone, Copy)]
 pub(crate) struct AnswerNumbers {
     pub refusal: u64,
     pub count: usize,
@@ -15,7 +15,7 @@ pub(crate) struct AnswerNumbers {
 }
 
 // How many numbers were written, or that there was no room.
-#[derive(Drop)]
+#[derive(Clone, Copy)]
 pub(crate) enum Written {
     Numbers(usize),
     NoRoom,

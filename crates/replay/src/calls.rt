@@ -24,7 +24,7 @@ const LIST: u64 = 7;
 const SEED_LIMIT: u64 = 4294967296;
 
 // A call: its kind and its numbers, 0 past the last.
-#[derive(Drop)]
+#[derive(Clone, Copy)]
 pub(crate) struct CallNumbers {
     pub kind: u64,
     pub x: u64,
@@ -33,7 +33,7 @@ pub(crate) struct CallNumbers {
 }
 
 // A call and how many numbers it takes, or none. Of a list of puts, its start and how many steps it has: its lists stay in the slice.
-#[derive(Drop)]
+#[derive(Clone, Copy)]
 pub(crate) enum Next {
     Call(CallNumbers, usize),
     List(u64, usize, usize),

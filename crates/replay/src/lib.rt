@@ -1,4 +1,6 @@
 // Runs a list of trace calls that is given as numbers, and writes their answers as numbers.
+#![tactic(auto)]
+
 mod answers;
 mod calls;
 mod runs;

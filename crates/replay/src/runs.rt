@@ -11,7 +11,7 @@ use crate::answers::{
 use crate::calls::{CallNumbers, FLIP, LOAD, MARK, Next, PUT, READ, SURVEY, next_call};
 
 // How many numbers a call took and its answer has, or that no call ran.
-#[derive(Drop)]
+#[derive(Clone, Copy)]
 pub(crate) enum NextRun {
     Ran(usize, usize),
     Stop,

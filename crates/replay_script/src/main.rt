@@ -18,6 +18,8 @@
 //
 // A call that is refused gets `refused` and its number. A line that can't be read, or that lends, opens or saves in vain, gets its number
 // and what is wrong with it, and the lent bytes stay. Until something is lent there are none.
+#![tactic(auto)]
+
 mod play;
 
 ghost use Rattle.std.specs.Prelude.{◌≡◌, ◌≤◌, length};
@@ -29,7 +31,7 @@ use play::{play, print_trouble};
 use script::{LINE, hold, is_whole};
 
 // How far a script is played.
-#[derive(Drop)]
+#[derive(Clone, Copy)]
 struct Progress {
     // How many bytes of the next line are held.
     held: usize,

@@ -12,7 +12,7 @@ use crate::parts::argument;
 use lines::INPUT;
 
 // How many bytes are lent.
-#[derive(Drop)]
+#[derive(Clone, Copy)]
 pub enum Lent {
     Bytes(usize),
     // More than the buffer has.

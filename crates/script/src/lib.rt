@@ -1,5 +1,7 @@
 // A line of a script, taken byte by byte, and what it asks for: its command, the part of it that is the command's argument, the bytes that it
 // lends, the list of puts that it is, and what a call prints and leaves.
+#![tactic(auto)]
+
 mod answering;
 mod held;
 mod hex;

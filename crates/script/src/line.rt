@@ -10,7 +10,7 @@ use crate::parts::{bare, skip_blanks, word_end};
 use crate::words::says;
 
 // A call on the lent bytes.
-#[derive(Drop)]
+#[derive(Clone, Copy)]
 pub enum Call {
     // Code and slots.
     Make(u64, u64),
@@ -30,7 +30,7 @@ pub enum Call {
 }
 
 // What a line asks for.
-#[derive(Drop)]
+#[derive(Clone, Copy)]
 pub enum Command {
     // An empty line, or a comment.
     Nothing,

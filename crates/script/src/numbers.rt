@@ -5,21 +5,21 @@ ghost use Rattle.script.specs.Script.{words, digit_on, number_of, and_on, number
 use crate::parts::{skip_blanks, word_end};
 
 // The number that a word is, or that it is none.
-#[derive(Drop)]
+#[derive(Clone, Copy)]
 pub(crate) enum Number {
     Is(u64),
     Nothing,
 }
 
 // How many bytes or numbers a text is, or that it can't be read.
-#[derive(Drop)]
+#[derive(Clone, Copy)]
 pub(crate) enum Counted {
     Are(usize),
     Unreadable,
 }
 
 // Up to three numbers.
-#[derive(Drop)]
+#[derive(Clone, Copy)]
 pub(crate) enum Numbers {
     None,
     One(u64),

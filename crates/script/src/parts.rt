@@ -4,7 +4,7 @@ ghost use Rattle.script.specs.Script.{is_blank, skip_blanks, trim_end, without_r
 ghost use Rattle.script.specs.ContractsOfSteps.{separates};
 
 // The bytes of a line from `from` on, up to `to`.
-#[derive(Drop)]
+#[derive(Clone, Copy)]
 pub struct Part {
     pub from: usize,
     pub to: usize,
@@ -21,7 +21,7 @@ fn is_blank(byte: u8) -> bool
 }
 
 // What stands between pieces of a text.
-#[derive(Drop)]
+#[derive(Clone, Copy)]
 pub(crate) enum Separator {
     Blank,
     Comma,

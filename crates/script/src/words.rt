@@ -7,7 +7,7 @@ use crate::parts::{Part, skip_blanks, word_end};
 use check::same;
 
 // The three words of a text, or that it has more. Of fewer words the last are empty.
-#[derive(Drop)]
+#[derive(Clone, Copy)]
 pub(crate) enum Words {
     Three(Part, Part, Part),
     Other,

@@ -1,4 +1,6 @@
 // Surveys the trace that standard input holds: smallest, largest and mean of its pressures, and the counts that say whether to trust them.
+#![tactic(auto)]
+
 use files::Input;
 
 fn main() {

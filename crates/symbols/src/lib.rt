@@ -2,6 +2,8 @@
 //
 // A symbol is a number modulo 4 and a column a number modulo 16, top bit highest, so that every function
 // answers every number. Each is a shift of a table that is packed into one number, or plain arithmetic.
+#![tactic(auto)]
+
 ghost use Rattle.std.specs.Prelude.{◌≡◌};
 ghost use Rattle.symbols.specs.Symbol.{symbol_number, symbol_of, add, mul};
 ghost use Rattle.symbols.specs.Column.{value, parity, top, one, weight, column_of, column_number, column_with};

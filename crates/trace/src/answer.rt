@@ -4,7 +4,7 @@ ghost use Rattle.trace.specs.Answers.{refusal_number, reading_values, counts_val
 ghost use Rattle.trace.specs.ContractsOfSteps.{done_of};
 
 // Why a call is refused: as a word call is, or for a reason of the trace's own.
-#[derive(Drop)]
+#[derive(Clone, Copy)]
 pub enum Refusal {
     Word(codes::Refusal),
     WrongCount,
@@ -43,14 +43,14 @@ impl Refusal {
 }
 
 // Of making, put, list of puts, flip, mark and clear.
-#[derive(Drop)]
+#[derive(Clone, Copy)]
 pub enum Done {
     Accepted,
     Refused(Refusal),
 }
 
 // Of load: the number handed back.
-#[derive(Drop)]
+#[derive(Clone, Copy)]
 pub enum LoadAnswer {
     Loaded(u32),
     Refused(Refusal),
@@ -69,7 +69,7 @@ impl LoadAnswer {
 }
 
 // A corrected message's step and reading, the unmarked positions that were wrong, and the number of marks.
-#[derive(Drop)]
+#[derive(Clone, Copy)]
 pub struct Reading {
     pub step: u64,
     pub reading: u64,
@@ -87,14 +87,14 @@ impl Reading {
 }
 
 // Of read.
-#[derive(Drop)]
+#[derive(Clone, Copy)]
 pub enum ReadAnswer {
     Corrected(Reading),
     Refused(Refusal),
 }
 
 // How many slots have each status.
-#[derive(Drop)]
+#[derive(Clone, Copy)]
 pub struct Counts {
     pub blank: u64,
     pub read: u64,
@@ -116,7 +116,7 @@ impl Counts {
 }
 
 // Smallest, largest and mean of the readings 1 to 4094; absent where there are none.
-#[derive(Drop)]
+#[derive(Clone, Copy)]
 pub enum Pressures {
     Absent,
     Present(u64, u64, u64),
@@ -145,7 +145,7 @@ impl Pressures {
 }
 
 // The number of slots and their counts; the sum of the readings 1 to 4094, and more of them.
-#[derive(Drop)]
+#[derive(Clone, Copy)]
 pub struct Survey {
     pub slots: u64,
     pub counts: Counts,
@@ -154,7 +154,7 @@ pub struct Survey {
 }
 
 // A survey's values: how many there are, and as many; 0 past the last.
-#[derive(Drop)]
+#[derive(Clone, Copy)]
 pub struct SurveyValues {
     pub count: usize,
     pub values: [u64; 10],
@@ -178,7 +178,7 @@ impl Survey {
 }
 
 // Of survey.
-#[derive(Drop)]
+#[derive(Clone, Copy)]
 pub enum SurveyAnswer {
     Surveyed(Survey),
     Refused(Refusal),

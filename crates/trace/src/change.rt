@@ -13,7 +13,7 @@ use crate::slot::{Content, READINGS, bit, content_at, write_content};
 use codes::{Code, Encoded};
 
 // A change of a slot.
-#[derive(Drop)]
+#[derive(Clone, Copy)]
 pub(crate) enum Change {
     // Step and reading.
     Put(u64, u64),
@@ -26,14 +26,14 @@ pub(crate) enum Change {
 }
 
 // What a changed slot holds then, with the number that a load hands back, 0 of any other change; or why the change is refused.
-#[derive(Drop)]
+#[derive(Clone, Copy)]
 pub(crate) enum Changed {
     To(Content, u32),
     Refused(Refusal),
 }
 
 // A written slot's word and marks, and the bit of a position.
-#[derive(Drop)]
+#[derive(Clone, Copy)]
 pub(crate) enum BitFound {
     At(u64, u64, u64),
     Refused(Refusal),

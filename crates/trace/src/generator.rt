@@ -21,13 +21,13 @@ fn wrapping_mul(a: u32, b: u32) -> u32
 }
 
 // A generator, by its number.
-#[derive(Drop)]
+#[derive(Clone, Copy)]
 pub(crate) struct Generator {
     pub number: u32,
 }
 
 // A draw: the generator after it, and which of the positions still unpicked is picked, counted upward from 0.
-#[derive(Drop)]
+#[derive(Clone, Copy)]
 pub(crate) struct Draw {
     pub generator: Generator,
     pub rank: u64,

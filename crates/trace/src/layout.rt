@@ -26,7 +26,7 @@ const MOST_SLOTS: u64 = 4000;
 const EDITION: u64 = 1;
 
 // Where a slot's state, word and marks lie.
-#[derive(Drop)]
+#[derive(Clone, Copy)]
 pub(crate) struct Place {
     pub state: usize,
     pub word: usize,
@@ -34,7 +34,7 @@ pub(crate) struct Place {
 }
 
 // What a fit trailer says: where slot 0 lies, the number of slots, and the code.
-#[derive(Drop)]
+#[derive(Clone, Copy)]
 pub(crate) struct Header {
     pub start: usize,
     pub slots: usize,
@@ -42,14 +42,14 @@ pub(crate) struct Header {
 }
 
 // A buffer whose trailer is fit, or why it is refused.
-#[derive(Drop)]
+#[derive(Clone, Copy)]
 pub(crate) enum Opened {
     Fit(Header),
     Refused(Refusal),
 }
 
 // A slot's place and code.
-#[derive(Drop)]
+#[derive(Clone, Copy)]
 pub(crate) enum Found {
     At(Place, Code),
     Refused(Refusal),

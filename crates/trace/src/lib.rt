@@ -1,4 +1,6 @@
 // Traces of readings in a lent buffer: making, put, list of puts, flip, mark, load, clear, read and survey.
+#![tactic(auto)]
+
 mod answer;
 mod bytes;
 mod calls;

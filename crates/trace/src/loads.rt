@@ -7,7 +7,7 @@ use crate::generator::{Generator, draw_from};
 use crate::slot::bit;
 
 // A load on its way: its generator, and the word whose ones are the positions picked so far.
-#[derive(Drop)]
+#[derive(Clone, Copy)]
 pub(crate) struct Load {
     pub generator: Generator,
     pub picked: u64,

@@ -25,7 +25,7 @@ const BAD: u64 = 2;
 pub(crate) const READINGS: u64 = 4096;
 
 // What a slot holds: nothing, numbers that no call writes, or a word under marks.
-#[derive(Drop)]
+#[derive(Clone, Copy)]
 pub(crate) enum Content {
     Blank,
     Bad,

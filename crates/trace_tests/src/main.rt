@@ -1,5 +1,7 @@
 // The trace calls, tried: each refusal, also where a later one applies too, and the boundaries of every number; whether any byte changed;
 // surveys; the worked loads; and lists of puts.
+#![tactic(auto)]
+
 mod last;
 mod lists;
 mod loads;
@@ -40,7 +42,7 @@ fn make_large(length: usize, slots: u64)
 }
 
 // A call that changes a slot.
-#[derive(Drop)]
+#[derive(Clone, Copy)]
 enum Call {
     // Slot, step, reading.
     Put(u64, u64, u64),

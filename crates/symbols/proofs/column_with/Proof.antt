@@ -30,37 +30,37 @@ entry_right w h p v t =
 one-requires : tie.Need-one-requires
 one-requires c κs = search rules
 
-mul_result : tie.Need-overflow-mul-result
+mul_result : tie.Need-overflow_mul-result
 mul_result c = omega (arith, bits_counted.small c.before.args.parity)
 
-mul_result_2 : tie.Need-overflow-mul-result-2
+mul_result_2 : tie.Need-overflow_mul-result-2
 mul_result_2 c = search rules
 
-add_result : tie.Need-overflow-add-result
+add_result : tie.Need-overflow_add-result
 add_result c = omega (arith, bits_counted.small c.before.args.parity)
 
 one-requires-2 : tie.Need-one-requires-2
 one-requires-2 c κs = search rules
 
-mul_result_3 : tie.Need-overflow-mul-result-3
+mul_result_3 : tie.Need-overflow_mul-result-3
 mul_result_3 c = omega (arith, bits_counted.small c.before.before.args.top)
 
-add_result_2 : tie.Need-overflow-add-result-2
+add_result_2 : tie.Need-overflow_add-result-2
 add_result_2 c = omega (arith, bits_counted.small c.before.before.args.parity, bits_counted.small c.before.before.args.top)
 
-cast_result : tie.Need-overflow-cast-result
+cast_result : tie.Need-overflow_cast-result
 cast_result c = omega (arith, bits_counted.small c.before.before.args.parity, bits_counted.small c.before.before.args.top)
 
-shr_result : tie.Need-overflow-shr-result
+shr_result : tie.Need-overflow_shr-result
 shr_result c = omega (arith, bits_counted.small c.before.before.args.parity, bits_counted.small c.before.before.args.top)
 
-cast_result_2 : tie.Need-overflow-cast-result-2
+cast_result_2 : tie.Need-overflow_cast-result-2
 cast_result_2 c = search rules
 
 returns : tie.Need-returns
 unfolding column_with
 returns c =
-    rw (c.before.one.ensures, c.one2.ensures)
+    rw (c.before.one.ensures, c.one-2.ensures)
     (entry_right _ tt c.before.before.args.parity c.before.before.args.value c.before.before.args.top)
 
 pub column_with_spec : {M : Type 1} → statement M

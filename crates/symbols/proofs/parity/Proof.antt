@@ -8,10 +8,10 @@ use Rattle.symbols.proofs.Numbers.{by_column}
 use Rattle.symbols.proofs.parity.Statement.{statement}
 use Rattle.symbols.proofs.parity.Tie as tie
 
-cast_result : tie.Need-overflow-cast-result
+cast_result : tie.Need-overflow_cast-result
 cast_result c = search rules
 
-shr_result : tie.Need-overflow-shr-result
+shr_result : tie.Need-overflow_shr-result
 shr_result c = search rules
 
 returns : tie.Need-returns

@@ -8,16 +8,16 @@ use Rattle.symbols.proofs.Numbers.{by_column}
 use Rattle.symbols.proofs.value.Statement.{statement}
 use Rattle.symbols.proofs.value.Tie as tie
 
-mul_result : tie.Need-overflow-mul-result
+mul_result : tie.Need-overflow_mul-result
 mul_result c = search rules
 
-cast_result : tie.Need-overflow-cast-result
+cast_result : tie.Need-overflow_cast-result
 cast_result c = search rules
 
-shr_result : tie.Need-overflow-shr-result
+shr_result : tie.Need-overflow_shr-result
 shr_result c = search rules
 
-cast_result_2 : tie.Need-overflow-cast-result-2
+cast_result_2 : tie.Need-overflow_cast-result-2
 cast_result_2 c = search rules
 
 returns : tie.Need-returns
