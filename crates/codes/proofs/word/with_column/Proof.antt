@@ -21,12 +21,12 @@ value_lt c = omega (arith, c.value.ensures, numbers.symbols.small (value (column
 columns-requires : tie.Need-columns-requires
 columns-requires c κs = search rules
 
-returns : tie.Need-returns
+returns : tie.Need-returns-then-columns-i
 returns c =
-    let a = c.before.before.args in
-    no_column_more (projection a.code) a.i a.column (omega (arith, c.before.columns.ensures)) a.walk
+    let a = c.args in
+    no_column_more (projection a.code) a.i a.column (omega (arith, c.columns.ensures)) a.walk
 
-mul_t7 : tie.Need-overflow-mul-t7
+mul_t7 : tie.Need-overflow_mul-result
 mul_t7 c = search rules
 
 parity-requires : tie.Need-parity-requires
@@ -35,11 +35,11 @@ parity-requires c κs = search rules
 one-requires : tie.Need-one-requires
 one-requires c κs = search rules
 
-cast_t9 : tie.Need-overflow-cast-t9
+cast_t9 : tie.Need-overflow_cast-result
 cast_t9 c = search rules
 
-add_t10 : tie.Need-overflow-add-t10
-add_t10 c = omega (arith, c.one.ensures, numbers.bits.small c.before.parity.result)
+add_t10 : tie.Need-overflow_add-result
+add_t10 c = omega (arith, c.one.ensures, numbers.bits.small c.parity.result)
 
 top-requires : tie.Need-top-requires
 top-requires c κs = search rules
@@ -53,7 +53,7 @@ value-requires c κs = search rules
 multiple-requires : tie.Need-multiple-requires
 multiple-requires c κs = value_lt c
 
-returns-2 : tie.Need-returns-2
+returns-2 : tie.Need-returns
 returns-2 c =
     let valued = c.before.before in
     let multiplied = valued.before in
@@ -63,10 +63,10 @@ returns-2 c =
     let π = projection a.code in
     let column = column_of a.column in
     let symbol : symbol_of valued.value.result ≡ value column = ap symbol_of valued.value.ensures ∙ numbers.symbols.back (value column) in
-    one_column_more π a.i a.column (systematic a.code).shape (omega (arith, counted.before.before.before.before.columns.ensures)) a.walk _
-    c.before.multiple.result
-    (c.before.multiple.ensures ∙ multiplied.multiples.ensures valued.value.result (value_lt valued) ∙ rw (symbol))
-    (ap (λ n. a.walk.parities * 2 + n) (counted.one.ensures ∙ ap one counted.before.parity.ensures))
+    one_column_more π a.i a.column (systematic a.code).shape (omega (arith, counted.columns.ensures)) a.walk _
+    c.multiple.result
+    (c.multiple.ensures ∙ multiplied.multiples.ensures valued.value.result (value_lt valued) ∙ rw (symbol))
+    (ap (λ n. a.walk.parities * 2 + n) (counted.one.ensures ∙ ap one counted.parity.ensures))
     (ap (λ b. not (beq a.walk.top b)) topped.top.ensures)
     refl
 
