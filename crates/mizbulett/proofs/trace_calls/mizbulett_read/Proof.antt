@@ -6,23 +6,23 @@ use Rattle.mizbulett.proofs.trace_calls.mizbulett_read.Tie as tie
 read-requires : tie.Need-read-requires
 read-requires c κs = search rules
 
-enum_known_r : tie.Need-enum-known-r
+enum_known_r : tie.Need-enum_known-r
 enum_known_r c = search rules
 
 number-requires : tie.Need-number-requires
 number-requires c κs = search rules
 
-enum_known_v : tie.Need-enum-known-v
+enum_known_v : tie.Need-enum_known-v
 enum_known_v c = search rules
 
 values-requires : tie.Need-values-requires
 values-requires c κs = search rules
 
-returns : tie.Need-returns
-returns c = rw (c.number.ensures, ← c.before.before.before.before.read.ensures, c.before.before.r.given.1)
+returns : tie.Need-returns-in-Refused
+returns c = rw (c.number.ensures, ← c.read.ensures, c.in-Refused.is)
 
-returns-2 : tie.Need-returns-2
-returns-2 c = rw (c.values.ensures, ← c.before.before.before.before.read.ensures, c.before.before.v.given.1)
+returns-2 : tie.Need-returns-in-Corrected
+returns-2 c = rw (c.values.ensures, ← c.read.ensures, c.in-Corrected.is)
 
 pub mizbulett_read_spec : {M : Type 1} → statement M
 mizbulett_read_spec =
