@@ -9,11 +9,6 @@ use borrow.Author.Rules.{rules}
 use Rattle.lines.proofs.answers.surveyed_line.Statement.{statement}
 use Rattle.lines.proofs.answers.surveyed_line.Tie as tie
 
--- where the values are known: as many as are counted, and few
-few : (c : tie.After-values-v) → (c.values-v.result.count ≡ length (take c.values-v.result.count c.values-v.result.values-v))
-    × (c.values-v.result.count ≤ 10)
-few c = given_few c.args.survey c.values-v.result c.values-v.ensures
-
 values-requires : tie.Need-values-v-requires
 values-requires c κs = search rules
 
@@ -21,19 +16,19 @@ array_share_prefix_values : tie.Need-slice_bounds-values-end
 array_share_prefix_values c = given_fit c.args.survey c.values-v.result c.values-v.ensures
 
 slice_aggregate_numbers : tie.Need-slice_bounds-numbers-end
-slice_aggregate_numbers c = (few c.before.before).0
+slice_aggregate_numbers c = (given_few c.args.survey c.values-v.result c.values-v.ensures).0
 
 enum_told : tie.Need-enum_told-1
 enum_told c = search rules
 
 write-noted-requires : tie.Need-write_noted-requires
-write-noted-requires c κs = omega (arith, few c.before.before.before.before.before.before)
+write-noted-requires c κs = omega (arith, given_few c.args.survey c.values-v.result c.values-v.ensures)
 
 enum_told_2 : tie.Need-enum_told-in-Present
 enum_told_2 c = search rules
 
 write-line-requires : tie.Need-write_line-requires
-write-line-requires c κs = omega (arith, few c.before.before.before.before.before)
+write-line-requires c κs = omega (arith, given_few c.args.survey c.values-v.result c.values-v.ensures)
 
 same_length : tie.Need-shape_of-out-in-Absent
 same_length c = search rules
@@ -44,7 +39,7 @@ returns c =
     let v = told.before.before.before in
     let absent = line_absent v.args.survey v.values-v.result v.values-v.ensures told.in-Absent.is in
     let w = c.write_noted.ensures in
-    (written_as absent w.0, omega (arith, w.1, few v))
+    (written_as absent w.0, omega (arith, w.1, given_few c.args.survey c.values-v.result c.values-v.ensures))
 
 same_length_2 : tie.Need-shape_of-out-in-Present
 same_length_2 c = search rules
@@ -55,7 +50,7 @@ returns-2 c =
     let v = told.before.before.before in
     let present = line_present v.args.survey v.values-v.result v.values-v.ensures _ _ _ told.in-Present.is in
     let w = c.write_line.ensures in
-    (written_as present w.0, omega (arith, w.1, few v))
+    (written_as present w.0, omega (arith, w.1, given_few c.args.survey c.values-v.result c.values-v.ensures))
 
 pub surveyed_line_spec : {M : Type 1} → statement M
 surveyed_line_spec =

@@ -21,8 +21,7 @@ slice_aggregate_end_line c = search rules
 
 end-line-requires : tie.Need-end_line-requires
 end-line-requires c κs =
-    let status = c.before.before.before in
-    omega (arith, word_short status.status-status.result, status.requires)
+    omega (arith, word_short c.status-status.result, c.requires)
 
 same_length : tie.Need-shape_of-out-in_default
 same_length c = search rules
@@ -46,45 +45,40 @@ slice_aggregate_end_line_2 c = search rules
 
 end-line-requires-2 : tie.Need-end_line-requires-then-is_read
 end-line-requires-2 c κs =
-    let test = c.before.before.before in
-    let answer = test.answer-1.given in
-    let called = test.before.before.before in
-    let status = called.status-status in
-    let read = ending_read answer.0.0 status.result (rw answer.1 at status.ensures) (sym test.is_read.ensures ∙ test.if-is_read.true) in
-    rw (read.0, c.values-numbers.ensures) (omega (arith, called.requires))
+    let answer = c.in-Corrected in
+    let status = c.status-status in
+    let read = ending_read answer.v status.result (rw answer.is at status.ensures) (sym c.is_read.ensures ∙ c.if-is_read.true) in
+    rw (read.0, c.values-numbers.ensures) (omega (arith, c.requires))
 
 same_length_2 : tie.Need-shape_of-out-then-is_read
 same_length_2 c = search rules
 
 returns-2 : tie.Need-returns-then-is_read
 returns-2 c =
-    let test = c.before.before.before.before.before.before in
-    let answer = test.answer-1.given in
-    let status = test.status-status in
-    let read = ending_read answer.0.0 status.result (rw answer.1 at status.ensures) (sym test.is_read.ensures ∙ test.if-is_read.true) in
+    let answer = c.in-Corrected in
+    let status = c.status-status in
+    let read = ending_read answer.v status.result (rw answer.is at status.ensures) (sym c.is_read.ensures ∙ c.if-is_read.true) in
     let values = c.values-numbers.ensures in
     let w = c.end_line-then-is_read.ensures in
-    (rw answer.1 (written_as (rw values read.1) w.0), omega (arith, rw (read.0, values) at w.1))
+    (rw answer.is (written_as (rw values read.1) w.0), omega (arith, rw (read.0, values) at w.1))
 
 slice_aggregate_end_line_3 : tie.Need-slice_bounds-end_line-end-2
 slice_aggregate_end_line_3 c = search rules
 
 end-line-requires-3 : tie.Need-end_line-requires-2
 end-line-requires-3 c κs =
-    let status = c.before.before.before.before.before in
-    omega (arith, word_short status.status-status.result, status.requires)
+    omega (arith, word_short c.status-status.result, c.requires)
 
 same_length_3 : tie.Need-shape_of-out
 same_length_3 c = search rules
 
 returns-3 : tie.Need-returns
 returns-3 c =
-    let test = c.before.before.before.before.before in
-    let answer = test.answer-1.given in
-    let status = test.status-status in
-    let unread = ending_unread answer.0.0 status.result (rw answer.1 at status.ensures) (sym test.is_read.ensures ∙ test.if-is_read.false) in
+    let answer = c.in-Corrected in
+    let status = c.status-status in
+    let unread = ending_unread answer.v status.result (rw answer.is at status.ensures) (sym c.is_read.ensures ∙ c.if-is_read.false) in
     let w = c.end_line-2.ensures in
-    (rw answer.1 (written_as unread w.0), omega (arith, w.1, word_short status.result))
+    (rw answer.is (written_as unread w.0), omega (arith, w.1, word_short status.result))
 
 pub end_slot_spec : {M : Type 1} → statement M
 end_slot_spec =

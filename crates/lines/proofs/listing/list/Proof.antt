@@ -14,11 +14,8 @@ use borrow.Author.Rules.{rules}
 use Rattle.lines.proofs.listing.list.Statement.{statement}
 use Rattle.lines.proofs.listing.list.Tie as tie
 
-abbrev file : tie.Start → List ℕ
-file c = read_into c.args.input.now c.args.size
-
 -- where the survey is known: that it is accepted, and its few slots
-surveyed : (c : tie.In-Surveyed) → survey_file (file c.before) ≡ accepted c.in-Surveyed.s
+surveyed : (c : tie.In-Surveyed) → survey_file (read_into c.args.input.now c.args.size) ≡ accepted c.in-Surveyed.s
 surveyed c = let v = c.survey_input in survey_known _ v.result _ v.ensures.1 c.in-Surveyed.is
 
 few : (c : tie.In-Surveyed) → c.in-Surveyed.s.slots ≤ 4000
@@ -41,10 +38,7 @@ enum_known_s c = search rules
 
 slice_aggregate_slot_lines : tie.Need-slice_bounds-slot_lines-end
 slice_aggregate_slot_lines c =
-    let known = c.before.before in
-    let v = known in
-    let a = v.args in
-    read_whole a.input.now v.survey_input.ensures.0 a.size (survey_accepted _ _ (surveyed known)).0
+    read_whole c.args.input.now c.survey_input.ensures.0 c.args.size (survey_accepted _ _ (surveyed c.before.before)).0
 
 slot-lines-requires : tie.Need-slot_lines-end-requires
 slot-lines-requires c κs = omega (arith, few c.before.before.before)
@@ -54,9 +48,8 @@ total-line-requires c κs = omega (arith, c.slot_lines-end.ensures.1, few c.befo
 
 returns : tie.Need-returns-in-Refused
 returns c =
-    let known = c.before.before.before in
-    let v = known.survey_input in
-    let e = survey_known (file known.before) v.result _ v.ensures.1 known.in-Refused.is in
+    let v = c.survey_input in
+    let e = survey_known (read_into c.args.input.now c.args.size) v.result _ v.ensures.1 c.in-Refused.is in
     let w = written_as (ap refused_line c.number.ensures ∙ listing_refused _ _ e) c.refused_line.ensures.0 in
     ((v.ensures.0, begins w), lendable _ _ (omega arith))
 

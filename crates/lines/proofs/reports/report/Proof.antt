@@ -13,9 +13,6 @@ use borrow.Author.Rules.{rules}
 use Rattle.lines.proofs.reports.report.Statement.{statement}
 use Rattle.lines.proofs.reports.report.Tie as tie
 
-abbrev file : tie.Start → List ℕ
-file c = read_into c.args.input.now c.args.size
-
 survey-input-requires : tie.Need-survey_input-requires
 survey-input-requires c κs = search rules
 
@@ -39,17 +36,15 @@ count-lines-requires c κs = search rules
 
 returns : tie.Need-returns-in-Refused
 returns c =
-    let known = c.before.before.before in
-    let v = known.survey_input in
-    let e = survey_known (file known.before) v.result _ v.ensures.1 known.in-Refused.is in
+    let v = c.survey_input in
+    let e = survey_known (read_into c.args.input.now c.args.size) v.result _ v.ensures.1 c.in-Refused.is in
     let text = ap (λ n. reported (refused n)) c.number.ensures ∙ report_refused _ _ e in
     ((v.ensures.0, begins (written_as text c.refusal_line.ensures.0)), lendable _ _ (omega arith))
 
 returns-2 : tie.Need-returns-in-Surveyed
 returns-2 c =
-    let known = c.before.before.before.before.before in
-    let v = known.survey_input in
-    let e = survey_known (file known.before) v.result _ v.ensures.1 known.in-Surveyed.is in
+    let v = c.survey_input in
+    let e = survey_known (read_into c.args.input.now c.args.size) v.result _ v.ensures.1 c.in-Surveyed.is in
     let pressures = c.pressure_lines-end.ensures in
     let counts = c.count_lines.ensures in
     let w = written_as (report_accepted _ _ e) (written_then pressures.0 counts.0) in
