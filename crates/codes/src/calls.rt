@@ -7,10 +7,13 @@ ghost use Rattle.codes.specs.Codes.{projection, encoded_answer, decoded_answer, 
 
 use crate::answer::{Corrected, Correction, Decoded, Encoded, Refusal};
 use crate::code::{Code, CodeFound};
-use crate::correction::{near, ones, wrong};
+use crate::correction::{BUDGET, near, ones, wrong};
 use crate::message::{codeword, message_in};
 use crate::search::NONE;
 use crate::word::{Walk, is_first_odd, lacking, pack, unpack};
+
+// With more marks than this no codeword is near.
+const MOST_MARKS: u64 = BUDGET;
 
 // Whether a word that was walked is a codeword: its syndrome is zero, no column lacks the first one's parity, and the top row has the parity that the
 // rule wants.
@@ -69,7 +72,7 @@ impl Code {
             return Corrected::Refused(Refusal::WordTooWide);
         }
         let marked = ones(marks);
-        if 7 < marked {
+        if MOST_MARKS < marked {
             return Corrected::Refused(Refusal::NoneNear);
         }
         let codeword = near(self, word, marks);

@@ -10,6 +10,9 @@ ghost use Rattle.codes.specs.ContractsOfSearch.{NearWithin, Sought};
 use crate::code::Code;
 use crate::search::{NONE, within_three};
 
+// A codeword is near up to this sum: twice the wrong bits, and the marks.
+pub(crate) const BUDGET: u64 = 7;
+
 // The number of a word's ones, whatever its code.
 pub(crate) fn ones(packed: u64) -> u64
     ensures { (π : Projection) → packed < 2 ^ width π → result ≡ ones π packed }
@@ -33,7 +36,7 @@ fn fitting(code: Code, filled: u64, word: u64, marks: u64) -> u64
     if NONE <= found {
         return NONE;
     }
-    if 2 * wrong(word, marks, found) + ones(marks) <= 7 {
+    if 2 * wrong(word, marks, found) + ones(marks) <= BUDGET {
         return found;
     }
     NONE

@@ -58,11 +58,11 @@ add_if2 c =
     let marks = c.ones.ensures (π f) (entry f).requires.2 in
     omega (arith, wrongs f, wrong_le (π f) (w f) (m f) (x f), ones_le (π f) (m f), size_le (entry f).args.code)
 
-returns-2 : tie.Need-returns-then-wrong-ones-le7
+returns-2 : tie.Need-returns-then-wrong-ones-le-BUDGET
 returns-2 c =
     let f = c.before.before in
     let marks = c.ones.ensures (π f) (entry f).requires.2 in
-    sought_one (x f) (fitting_near (π f) (w f) (m f) (entry f).args.filled (x f) (found f) (omega (arith, wrongs f, c.if-wrong-ones-le7.true)))
+    sought_one (x f) (fitting_near (π f) (w f) (m f) (entry f).args.filled (x f) (found f) (omega (arith, wrongs f, c.if-wrong-ones-le-BUDGET.true)))
     f.if-found-ge-NONE.false
 
 returns-3 : tie.Need-returns
@@ -71,7 +71,7 @@ returns-3 c =
     let code = (entry f).args.code in
     let marks = c.ones.ensures (π f) (entry f).requires.2 in
     sought_none
-    (fitting_far (π f) (w f) (m f) (systematic code) (apart code) (entry f).args.filled (x f) (found f) (omega (arith, wrongs f, c.if-wrong-ones-le7.false)))
+    (fitting_far (π f) (w f) (m f) (systematic code) (apart code) (entry f).args.filled (x f) (found f) (omega (arith, wrongs f, c.if-wrong-ones-le-BUDGET.false)))
 
 pub fitting_spec : {M : Type 1} → statement M
 fitting_spec =

@@ -63,10 +63,10 @@ returns-2 c =
 ones-requires : tie.Need-ones-marked-requires
 ones-requires c κs = search rules
 
-returns-3 : tie.Need-returns-then-marked-gt7
+returns-3 : tie.Need-returns-then-marked-gt-MOST_MARKS
 returns-3 c =
     let e = c.before.before in
-    none_answer e (many_marks (π e) (w e) (m e) (rw (c.ones-marked.ensures (π e) (marks_fit e)) at c.if-marked-gt7.true))
+    none_answer e (many_marks (π e) (w e) (m e) (rw (c.ones-marked.ensures (π e) (marks_fit e)) at c.if-marked-gt-MOST_MARKS.true))
 
 near-requires : tie.Need-near-codeword-requires
 near-requires c κs = search rules
