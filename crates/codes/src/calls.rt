@@ -15,6 +15,9 @@ use crate::word::{Walk, is_first_odd, lacking, pack, unpack};
 // With more marks than this no codeword is near.
 const MOST_MARKS: u64 = BUDGET;
 
+// From here on a number says that no codeword is near.
+const NO_CODEWORD: u64 = NONE;
+
 // Whether a word that was walked is a codeword: its syndrome is zero, no column lacks the first one's parity, and the top row has the parity that the
 // rule wants.
 fn is_codeword(code: Code, walk: Walk) -> bool
@@ -76,7 +79,7 @@ impl Code {
             return Corrected::Refused(Refusal::NoneNear);
         }
         let codeword = near(self, word, marks);
-        if NONE <= codeword {
+        if NO_CODEWORD <= codeword {
             return Corrected::Refused(Refusal::NoneNear);
         }
         // the codeword was not walked: the walk was over the word with its marked bits filled

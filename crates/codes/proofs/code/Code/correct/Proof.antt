@@ -71,8 +71,8 @@ returns-3 c =
 near-requires : tie.Need-near-codeword-requires
 near-requires c κs = search rules
 
-returns-4 : tie.Need-returns-then-codeword-ge-NONE
-returns-4 c = none_answer c.before.before.before.before (c.near-codeword.ensures.none c.if-codeword-ge-NONE.true)
+returns-4 : tie.Need-returns-then-codeword-ge-NO_CODEWORD
+returns-4 c = none_answer c.before.before.before.before (c.near-codeword.ensures.none c.if-codeword-ge-NO_CODEWORD.true)
 
 unpack-requires : tie.Need-unpack-columns-requires
 unpack-requires c κs = search rules
@@ -98,7 +98,7 @@ returns-5 c =
     let counted = found.ones-marked in
     let e = found.before.before.before in
     let x = found.near-codeword.result in
-    let close = found.near-codeword.ensures.found c.if-codeword-ge-NONE.false in
+    let close = found.near-codeword.ensures.found c.if-codeword-ge-NO_CODEWORD.false in
     let message : c.message_in.result ≡ decode (π e) x =
     rw c.unpack-columns.ensures at c.message_in.ensures in
     let count : c.wrong.result ≡ wrong (π e) (w e) (m e) x = c.wrong.ensures (π e) (word_fits e.before.before) (marks_fit e) close.fits in
