@@ -10,6 +10,9 @@ use crate::answers::{
 };
 use crate::calls::{CallNumbers, FLIP, LOAD, MARK, Next, PUT, READ, SURVEY, next_call};
 
+// The numbers that any answer to a change takes: a count, and a refusal's number.
+const CHANGE_ROOM: usize = 2;
+
 // How many numbers a call took and its answer has, or that no call ran.
 #[derive(Clone, Copy)]
 pub(crate) enum NextRun {
@@ -65,7 +68,7 @@ fn run_call(b: &mut [u8], call: CallNumbers, out: &mut [u64]) -> Written
 {
     let kind = call.kind;
     if kind < READ {
-        if out.len() < 2 {
+        if out.len() < CHANGE_ROOM {
             return Written::NoRoom;
         }
         return write_answer(out, run_change(b, call));
@@ -85,7 +88,7 @@ fn run_list(b: &mut [u8], start: u64, count: usize, numbers: &[u64], out: &mut [
     ensures { RunsCall (list_with start count numbers.now)
         b.old out.old b.new out.new result }
 {
-    if out.len() < 2 {
+    if out.len() < CHANGE_ROOM {
         return Written::NoRoom;
     }
     let steps = &numbers[..count];

@@ -18,7 +18,7 @@ use Rattle.replay.proofs.runs.run_call.Tie as tie
 abbrev answer : CallNumbers → List ℕ → Answer (List ℕ)
 answer call b = (on_bytes (call_of call) b).answer
 
-returns : tie.Need-returns-then-out-lt2
+returns : tie.Need-returns-then-out-lt-CHANGE_ROOM
 returns c =
     (omega (arith, room_of_answer c.args.call (answer c.args.call c.args.b.now) (omega arith), two_numbers (answer c.args.call c.args.b.now)), refl, refl)
 
