@@ -10,7 +10,7 @@ use crate::answers::{
 };
 use crate::calls::{CallNumbers, FLIP, LOAD, MARK, Next, PUT, READ, SURVEY, next_call};
 
-// The numbers that any answer to a change takes: a count, and a refusal's number.
+// The numbers of any answer to a put, list of puts, flip, mark or clear: the refusal's number or 0, and the count of values, which is 0.
 const CHANGE_ROOM: usize = 2;
 
 // How many numbers a call took and its answer has, or that no call ran.
