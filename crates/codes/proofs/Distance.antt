@@ -3,7 +3,7 @@
 -- whose value isn't 0 has two ones. So four such columns make eight ones; and with fewer all values are 0, since no three columns of the
 -- matrix are dependent. Then each column is empty or full, and the top rule shuts out exactly one full column.
 -- Of the code this takes a computed test of its matrix, and that odd codewords have eight ones (`Apart`).
-use Rattle.std.proofs.Common.{◌≡◌, ℕ, zero, ◌+◌, ◌-◌, ◌*◌, ◌≤◌, Bool, true, false, not, ◌&&◌, ◌||◌, T, leb, List, [], ◌∷◌, map, length, sym, refl, ap, ◌∙◌, subst, ap₂, arith, le-leb}
+use Rattle.std.proofs.Common.{◌≡◌, ℕ, ◌+◌, ◌-◌, ◌*◌, ◌≤◌, Bool, true, false, not, ◌&&◌, ◌||◌, T, leb, List, [], ◌∷◌, map, length, sym, refl, ap, ◌∙◌, subst, ap₂, arith, le-leb}
 use mathlib.Core.Bool.{and-eq-true_iff, and-true, and_assoc}
 use lib.ListN.{length-map}
 use Rattle.symbols.specs.Symbol.{◌⊻◌, Symbol, is_zero}

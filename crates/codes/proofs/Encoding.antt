@@ -4,7 +4,7 @@
 use Rattle.std.proofs.Common.{◌≡◌, suc, ◌-◌, ◌<◌, Bool, true, false, List, [], ◌∷◌, map, length, sym, refl, ap, ◌∙◌, ap₂, arith}
 use lib.ListN.{length-map}
 use Rattle.symbols.specs.Symbol.{◌⊻◌, Symbol}
-use Rattle.symbols.specs.Column.{Column, value, parity, top, column_with}
+use Rattle.symbols.specs.Column.{Column, value, top, column_with}
 use Rattle.symbols.proofs.Claims.{exclusive_or, column_fixed}
 use Rattle.codes.specs.Projection.{Projection, wanted, count, size, top_bits}
 use Rattle.codes.specs.Word.{all_parity, top_row}

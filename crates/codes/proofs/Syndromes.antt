@@ -2,7 +2,7 @@
 -- Where the syndrome is zero the difference has no live column: it is empty, or the top row is off and the codeword at least four positions
 -- away. Else at least one column of the difference is live and has two ones, and just one is live where the difference has at most three
 -- ones. The table names that column and its value, and the top row says which two bits.
-use Rattle.std.proofs.Common.{◌≡◌, ℕ, zero, ◌+◌, ◌-◌, ◌*◌, ◌/◌, ◌%◌, ◌<◌, ◌≤◌, Bool, true, false, List, [], ◌∷◌, sym, refl, ap, ◌∙◌, arith}
+use Rattle.std.proofs.Common.{◌≡◌, ℕ, ◌+◌, ◌-◌, ◌*◌, ◌/◌, ◌%◌, ◌<◌, ◌≤◌, Bool, true, false, List, [], ◌∷◌, sym, refl, ap, ◌∙◌, arith}
 use mathlib.Core.Bool.{beq}
 use borrow.Author.Tests.{not-false}
 use lib.Bits.{xor_self as xor_same}

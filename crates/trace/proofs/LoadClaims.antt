@@ -1,7 +1,7 @@
 -- A load counts as its flips. On the plain trace each flip of a written slot whose position is the word's is accepted and stores the slot flipped,
 -- which is written again; so the flips of a load's positions store what the load stores. The same flips again undo it, as exclusive or does. On the
 -- bytes of a trace in use it is so by demand 3. Its table of refusals is a flip's but for the last row, so 7 to 11 are met alike.
-use Rattle.std.proofs.Common.{◌≡◌, ℕ, zero, suc, ◌<◌, ◌≤◌, false, ◌↔◌, List, [], ◌∷◌, ◌++◌, map, length, get_or, refl, ap, arith, length-set, get_or-set_same, set-set, le-ltb}
+use Rattle.std.proofs.Common.{◌≡◌, ℕ, zero, suc, ◌<◌, ◌≤◌, false, ◌↔◌, List, [], ◌∷◌, ◌++◌, map, length, get_or, refl, arith, length-set, get_or-set_same, set-set, le-ltb}
 use lib.Seq.{set-get_or}
 use borrow.Author.Tests.{lt-leb}
 use Rattle.codes.specs.Answer.{Answer, accepted, refused, Row, unless, Refuses}

@@ -10,7 +10,7 @@ use Rattle.codes.specs.Projection.{Projection, width}
 use Rattle.codes.specs.Word.{bit}
 use Rattle.codes.proofs.Rows.{not_refused}
 use Rattle.trace.specs.Lists.{in_turn}
-use Rattle.trace.specs.Calls.{Call, put, put_list, flip, mark, load, clear, read, survey, Making, outcome, run}
+use Rattle.trace.specs.Calls.{Call, put, put_list, flip, mark, load, clear, read, survey, Making, run}
 use Rattle.trace.specs.Load.{positions_of, handed_back}
 use Rattle.trace.specs.Refusals.{no_position, too_many}
 use Rattle.trace.specs.View.{message_of}

@@ -1,6 +1,6 @@
 -- A buffer in which a slot is stored keeps its trailer: the slots lie before it, where the trailer is fit, and what is stored has a slot's size, so
 -- that neither the number of bytes nor those of the trailer change. What it says of the trace stays, and the buffer stays opened.
-use Rattle.std.proofs.Common.{◌≡◌, ℕ, ◌+◌, ◌-◌, ◌<◌, ◌≤◌, List, [], ◌∷◌, length, sym, ◌∙◌, arith, ltb-false}
+use Rattle.std.proofs.Common.{◌≡◌, ℕ, ◌+◌, ◌<◌, ◌≤◌, List, [], ◌∷◌, length, sym, ◌∙◌, arith, ltb-false}
 use borrow.Author.Tests.{not-false}
 use Rattle.codes.specs.Answer.{Passes}
 use Rattle.codes.proofs.Rows.{passes_first}

@@ -1,6 +1,6 @@
 -- 'The plain trace, for demand 3, is fed the making with its numbers and the buffer it found, then the calls with their numbers, and none of their
 -- answers.' It is an abstract state that knows no bytes. A set of positions is a word whose ones are those positions.
-use Rattle.std.specs.Prelude.{ℕ, List, ◌++◌, map, length, set, replicate, bit_or, bit_xor, slice_index_or, slice_set}
+use Rattle.std.specs.Prelude.{ℕ, List, ◌++◌, map, length, replicate, bit_or, bit_xor, slice_index_or, slice_set}
 use Rattle.codes.specs.Answer.{unless}
 use Rattle.codes.specs.Projection.{Projection}
 use Rattle.codes.specs.Word.{bit}

@@ -1,8 +1,5 @@
 -- `lines::answers::surveyed_line` meets its contract: the values that are present, and what stands for the others.
-use mathlib.Core.Path.{◌≡◌}
-use Prim.Native.Nat.{◌≤◌}
 use native.Mathlib.Omega.{arith}
-use lib.ListN.{length, take}
 use Rattle.lines.proofs.Texts.{written_as}
 use Rattle.lines.proofs.Surveyed.{given_few, given_fit, line_absent, line_present}
 use borrow.Author.Rules.{rules}

@@ -1,7 +1,6 @@
 -- `lines::listing::list` meets its contract: refused, or a line for each slot and the last one.
 use mathlib.Core.Path.{◌≡◌, ap, ◌∙◌}
-use mathlib.Core.List.{List}
-use Prim.Native.Nat.{ℕ, ◌≤◌}
+use Prim.Native.Nat.{◌≤◌}
 use native.Mathlib.Omega.{arith}
 use Rattle.codes.specs.Answer.{accepted}
 use Rattle.trace.proofs.Laws.{slots_few}

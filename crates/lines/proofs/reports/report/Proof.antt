@@ -1,7 +1,5 @@
 -- `lines::reports::report` meets its contract: refused, or the pressures and then the counts.
 use mathlib.Core.Path.{ap, ◌∙◌}
-use mathlib.Core.List.{List}
-use Prim.Native.Nat.{ℕ}
 use native.Mathlib.Omega.{arith}
 use Rattle.codes.specs.Answer.{refused}
 use Rattle.lines.specs.Input.{read_into}

@@ -5,7 +5,6 @@ use mathlib.Core.Bool.{true}
 use mathlib.Core.List.{List}
 use lib.ListN.{length, get_or}
 use native.Mathlib.Omega.{arith}
-use borrow.Author.Tests.{not-true, not-false}
 use Rattle.replay.specs.Numbers.{count_fits}
 use Rattle.replay.proofs.Rows.{no_head, no_count, cut_short, seed_decides, next_list, next_other}
 use borrow.Author.Rules.{rules}

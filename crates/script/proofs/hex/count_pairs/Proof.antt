@@ -5,7 +5,6 @@ use Prim.Native.Nat.{ℕ, ◌+◌, ◌-◌, ◌≤◌}
 use native.Mathlib.Omega.{arith}
 use native.Mathlib.Nat.{add-zero}
 use lib.ListN.{length, drop, drop_of_length-le}
-use borrow.Author.Tests.{not-true, not-false}
 use Rattle.script.specs.declared.numbers.Counted.{Counted}
 use Rattle.script.specs.Script.{hex_bytes}
 use Rattle.script.specs.ContractsOfSteps.{counted_on}

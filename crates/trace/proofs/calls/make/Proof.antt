@@ -1,6 +1,5 @@
 -- `trace::calls::make` meets its contract: the tests stand in the definition's order.
 use Rattle.std.proofs.Common.{◌≡◌, true, false, sym, ◌∙◌, rules, le-ltb, lt-ltb}
-use borrow.Author.Tests.{not-true, not-false}
 use Rattle.codes.specs.Codes.{is_code}
 use Rattle.codes.proofs.Laws.{code_known, code_unknown}
 use Rattle.trace.specs.Refusals.{is_count}

@@ -1,5 +1,5 @@
 -- `trace::loads::unpicked_at` meets its contract: the position is in the word, is found where none is left to pass, and comes nearer.
-use Rattle.std.proofs.Common.{◌<◌, arith}
+use Rattle.std.proofs.Common.{arith}
 use Rattle.trace.proofs.PickLaws.{seeks, seek_inside, seek_found, seek_nearer, seek_on}
 use Rattle.trace.proofs.loads.unpicked_at.Goals as goal
 use Rattle.trace.proofs.loads.unpicked_at.Goals.{then-picked-width-eq0+else-before-eq0, else-picked-width-eq0}
@@ -32,6 +32,6 @@ pub loop-position-preserved : goal.loop-position-preserved
 loop-position-preserved c =
     let here = c.loop-position.invariant in
     elim c.if-picked-width-eq0.branch [
-      then-picked-width-eq0+else-before-eq0 w ↦ rw w.before-is (seek_nearer _ _ _ _ _ here w.if-picked-width-eq0.true (omega (arith, w.if-before-eq0.false)))
-    | else-picked-width-eq0 w ↦ rw w.before-is (seek_on _ _ _ _ _ here w.if-picked-width-eq0.false)
+      | then-picked-width-eq0+else-before-eq0 w ↦ rw w.before-is (seek_nearer _ _ _ _ _ here w.if-picked-width-eq0.true (omega (arith, w.if-before-eq0.false)))
+      | else-picked-width-eq0 w ↦ rw w.before-is (seek_on _ _ _ _ _ here w.if-picked-width-eq0.false)
     ]
