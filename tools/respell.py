@@ -41,7 +41,7 @@ CHANGED = re.compile(r"^[^\WA-Z\d][\w'′-]*$")
 
 def spelled(name):
     name = name.replace("′", "'").replace("-", "_")
-    return re.sub(r"(?<=[a-z0-9])([A-Z])", lambda m: "_" + m.group(1).lower(), name)
+    return re.sub(r"(?<=[A-Za-z0-9])[A-Z](?=[a-z])|(?<=[a-z0-9])[A-Z]", lambda m: "_" + m.group(0).lower(), name)
 
 
 def apart(path, text):

@@ -18,7 +18,7 @@ use Rattle.codes.specs.Word.{word, is_codeword, distance}
 use Rattle.codes.specs.Message.{encode, decode}
 use Rattle.codes.specs.Correction.{wrong, ones, Near, correction_of, correct, is_far}
 use Rattle.codes.specs.Codes.{projection, is_code, code_of, correction_values, correction_answer, encoding, decoding, correcting, under}
-use Rattle.codes.specs.Codes.{unknown_code, message_too_large, word_too_wide, not_aCodeword, none_near}
+use Rattle.codes.specs.Codes.{unknown_code, message_too_large, word_too_wide, not_a_codeword, none_near}
 use Rattle.codes.specs.Claims.{WalkFixed, IsCodeword, RoundTrip, OneMessage, DecodesCodewords, CallsRoundTrip, SumOfCodewords, EightApart}
 use Rattle.codes.specs.Claims.{OneNear, EightIsFar, CorrectsNear, RefusesFar, Starred}
 use Rattle.codes.specs.Claims.{encoding_rows, decoding_rows, correcting_rows, WordCallsRefuse, WordRowsMean}
@@ -72,7 +72,7 @@ decodes_codewords c x = (accepts, only)
     only vs e =
         let π = projection c in
         let narrow = accepted_row (word_too_wide π x) _ vs e in
-        let codeword = accepted_row (not_aCodeword π x) _ vs narrow.1 in
+        let codeword = accepted_row (not_a_codeword π x) _ vs narrow.1 in
         (leb-false (2 ^ width π) x narrow.0, not-false _ codeword.0)
 
 pub calls_round_trip : CallsRoundTrip

@@ -18,7 +18,7 @@ use Rattle.codes.specs.Projection.{Projection, size}
 use Rattle.codes.specs.Word.{word, syndrome, syndrome_of, top_row}
 use Rattle.codes.specs.Codes.{projection}
 use Rattle.codes.specs.Claims.{WalkCollects}
-use Rattle.codes.specs.ContractsOfWalk.{held, Walked, OneMore}
+use Rattle.codes.specs.ContractsOfWalk.{held, Collected, OneMore}
 use Rattle.codes.proofs.Digits.{symbols_fit, digits_again, number_again, number_lt, place_pos, pow_mul}
 use Rattle.codes.proofs.Masks.{mask_lt}
 use Rattle.codes.proofs.Vectors.{add_v_comm, shaped, length_scale, length_syndrome}
@@ -38,7 +38,7 @@ sum_lt r a b ha hb = rw (pow_mul 2 2 r) (xor_lt (2 * r) a b (rw (← pow_mul 2 2
 walked_more : (r : ℕ) (h : List Symbol) (H : List (List Symbol)) (c : Column) (cs : List Column) (behind from : Walk) (g : ℕ) →
     length h ≡ r → g ≡ number_of symbols (scale (value c) h) →
     from.parities ≡ behind.parities * 2 + one (parity c) → from.top ≡ not (beq behind.top (top c)) →
-    from.syndrome ≡ bit_xor behind.syndrome g → Walked r H cs behind → Walked r (h ∷ H) (c ∷ cs) from
+    from.syndrome ≡ bit_xor behind.syndrome g → Collected r H cs behind → Collected r (h ∷ H) (c ∷ cs) from
 walked_more r h H c cs behind from g eh eg ep et es w =
     record {
       parities = rw (ep, w.parities);
@@ -80,7 +80,7 @@ module _ (π : Projection) (i x : ℕ) where
       ended l e = drop_of_length-le l {i = i} e ∙ sym (drop_of_length-le l {i = suc i} (omega arith))
 
 -- as many bits as columns have parities
-pub parities_lt : {r : ℕ} {H : List (List Symbol)} {cs : List Column} {walk : Walk} → Walked r H cs walk → walk.parities < 2 ^ length cs
+pub parities_lt : {r : ℕ} {H : List (List Symbol)} {cs : List Column} {walk : Walk} → Collected r H cs walk → walk.parities < 2 ^ length cs
 parities_lt {cs = cs} w = rw w.parities (rw (length-map cs parity) at (mask_lt (map parity cs)))
 
 -- an array with room for a code's columns: its column j is the word's, with those behind it
@@ -96,7 +96,7 @@ module _ (π : Projection) (a : List ℕ) (room : size π ≤ length a) where
 
   -- before the walk over it all columns are ahead
   pub walk_start : (k : ℕ) → size π ≤ k →
-      Walked π.rows (drop k π.matrix) (drop k (held π a)) (record { parities = 0; top = false; syndrome = 0 })
+      Collected π.rows (drop k π.matrix) (drop k (held π a)) (record { parities = 0; top = false; syndrome = 0 })
   walk_start k h =
       rw (drop_of_length-le π.matrix {i = k} h, drop_of_length-le (held π a) {i = k} (omega (arith, length_held)))
       (record { parities = refl; tops = refl; syndromes = digits_zero π.rows; bounded = place_pos symbols symbols_fit π.rows })
@@ -106,7 +106,7 @@ module _ (c : Code) (w : ℕ) (walk : Walk) where
   abbrev π : Projection
   π = projection c
 
-  pub collects : Walked (projection c).rows (projection c).matrix (word (projection c) w) walk → WalkCollects c w walk
+  pub collects : Collected (projection c).rows (projection c).matrix (word (projection c) w) walk → WalkCollects c w walk
   collects k =
       record {
         parities = k.parities;
@@ -116,7 +116,7 @@ module _ (c : Code) (w : ℕ) (walk : Walk) where
       }
 
   module _ (k : WalkCollects c w walk) where
-    pub collected : Walked (projection c).rows (projection c).matrix (word (projection c) w) walk
+    pub collected : Collected (projection c).rows (projection c).matrix (word (projection c) w) walk
     collected =
         let cs = word π w in
         record {

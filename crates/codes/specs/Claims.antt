@@ -14,7 +14,7 @@ use Rattle.codes.specs.Word.{word, bit_at, syndrome_of, top_row, is_codeword, �
 use Rattle.codes.specs.Message.{encode, decode}
 use Rattle.codes.specs.Correction.{wrong, ones, Near, correction_of}
 use Rattle.codes.specs.Codes.{codes, projection, code_of, step_limit, correction_values, encoding, decoding, correcting, under}
-use Rattle.codes.specs.Codes.{unknown_code, message_too_large, word_too_wide, not_aCodeword, none_near}
+use Rattle.codes.specs.Codes.{unknown_code, message_too_large, word_too_wide, not_a_codeword, none_near}
 use Rattle.codes.specs.Starred.{starred_words, Each}
 
 -- ---- words
@@ -153,7 +153,7 @@ abbrev pub decoding_numbers : List ℕ
 decoding_numbers = 1 ∷ 3 ∷ 4 ∷ []
 
 abbrev pub decoding_rows : ℕ → ℕ → List Row
-decoding_rows code word = unknown_code code ∷ word_too_wide (projection (code_of code)) word ∷ not_aCodeword (projection (code_of code)) word ∷ []
+decoding_rows code word = unknown_code code ∷ word_too_wide (projection (code_of code)) word ∷ not_a_codeword (projection (code_of code)) word ∷ []
 
 abbrev pub correcting_numbers : List ℕ
 correcting_numbers = 1 ∷ 3 ∷ 3 ∷ 5 ∷ []
@@ -182,7 +182,7 @@ pub record WordRowsMean : Type 0 where
   pub too_wide : (c : Code) (word : ℕ) → ((word_too_wide (projection c) word).met ≡ true ↔ 2 ^ width (projection c) ≤ word)
   -- 'not a codeword'
   pub no_codeword : (c : Code) (word : ℕ) → word < 2 ^ width (projection c) →
-      ((not_aCodeword (projection c) word).met ≡ true ↔ (IsCodeword c word → ⊥))
+      ((not_a_codeword (projection c) word).met ≡ true ↔ (IsCodeword c word → ⊥))
   -- 'no near codeword'
   pub none_near_met : (c : Code) (word marks : ℕ) →
       ((none_near (projection c) word marks).met ≡ true ↔ ((x : ℕ) → Near (projection c) word marks x → ⊥))

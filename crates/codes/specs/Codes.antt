@@ -80,8 +80,8 @@ message_too_large π m = record { number = 2; met = nat_le (2 ^ message_bits π)
 abbrev pub word_too_wide : Projection → ℕ → Row
 word_too_wide π w = record { number = 3; met = nat_le (2 ^ width π) w }
 
-abbrev pub not_aCodeword : Projection → ℕ → Row
-not_aCodeword π w = record { number = 4; met = not (is_codeword π (word π w)) }
+abbrev pub not_a_codeword : Projection → ℕ → Row
+not_a_codeword π w = record { number = 4; met = not (is_codeword π (word π w)) }
 
 abbrev pub none_near : Projection → ℕ → ℕ → Row
 none_near π w m = record { number = 5; met = is_far (correct π w m) }
@@ -91,7 +91,7 @@ abbrev pub encoding : Projection → ℕ → Answer (List ℕ)
 encoding π m = unless (message_too_large π m ∷ []) (accepted (encode π m ∷ []))
 
 abbrev pub decoding : Projection → ℕ → Answer (List ℕ)
-decoding π w = unless (word_too_wide π w ∷ not_aCodeword π w ∷ []) (accepted (decode π w ∷ []))
+decoding π w = unless (word_too_wide π w ∷ not_a_codeword π w ∷ []) (accepted (decode π w ∷ []))
 
 abbrev pub correcting : Projection → ℕ → ℕ → Answer (List ℕ)
 correcting π w m = unless (word_too_wide π w ∷ word_too_wide π m ∷ []) (correction_answer (correct π w m))

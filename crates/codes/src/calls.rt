@@ -7,13 +7,13 @@ ghost use Rattle.codes.specs.Codes.{projection, encoded_answer, decoded_answer, 
 
 use crate::answer::{Corrected, Correction, Decoded, Encoded, Refusal};
 use crate::code::{Code, CodeFound};
-use crate::correction::{BUDGET, near, ones, wrong};
+use crate::correction::{near, ones, wrong};
 use crate::message::{codeword, message_in};
 use crate::search::NONE;
 use crate::word::{Walk, is_first_odd, lacking, pack, unpack};
 
 // With more marks than this no codeword is near.
-const MOST_MARKS: u64 = BUDGET;
+const MOST_MARKS: u64 = 7;
 
 // From here on a number says that no codeword is near.
 const NO_CODEWORD: u64 = NONE;

@@ -11,7 +11,7 @@ use crate::code::Code;
 use crate::search::{NONE, within_three};
 
 // A codeword is near up to this sum: twice the wrong bits, and the marks.
-pub(crate) const BUDGET: u64 = 7;
+const BUDGET: u64 = 7;
 
 // The number of a word's ones, whatever its code.
 pub(crate) fn ones(packed: u64) -> u64

@@ -19,6 +19,9 @@ use crate::word::{Walk, lacking};
 // No codeword: a number above every word.
 pub(crate) const NONE: u64 = 0x100_0000_0000;
 
+// A column's rows are tried from the top one on.
+const TOP_ROW: u8 = 0;
+
 // A column of the check matrix: its place, and its multiples.
 #[derive(Clone, Copy)]
 pub(crate) struct MatrixColumn {
@@ -104,7 +107,7 @@ fn seek_one(code: Code, trial: Trial, i: MatrixColumn) -> u64
     if near < NONE {
         return near;
     }
-    let mut row: u8 = 0;
+    let mut row = TOP_ROW;
     while row < 4 {
         let found = by_syndrome(code, with_row(code, trial, i, row));
         if found < NONE {
@@ -120,7 +123,7 @@ fn seek_two(code: Code, trial: Trial, i: MatrixColumn, j: MatrixColumn) -> u64
     requires { IsColumn (projection code) i × IsColumn (projection code) j }
     ensures { Solved (projection code) (i.place ∷ j.place ∷ []) 2 trial result }
 {
-    let mut row: u8 = 0;
+    let mut row = TOP_ROW;
     while row < 4 {
         let found = in_column(code, with_row(code, trial, i, row), j);
         if found < NONE {
@@ -136,7 +139,7 @@ fn seek_three(code: Code, trial: Trial, i: MatrixColumn, j: MatrixColumn, k: Mat
     requires { IsColumn (projection code) i × IsColumn (projection code) j × IsColumn (projection code) k }
     ensures { Solved (projection code) (i.place ∷ j.place ∷ k.place ∷ []) 3 trial result }
 {
-    let mut row: u8 = 0;
+    let mut row = TOP_ROW;
     while row < 4 {
         let found = seek_two(code, with_row(code, trial, i, row), j, k);
         if found < NONE {

@@ -7,7 +7,7 @@ ghost use Rattle.codes.specs.Projection.{size};
 ghost use Rattle.codes.specs.Codes.{projection};
 ghost use Rattle.codes.specs.Word.{word, word_number};
 ghost use Rattle.codes.specs.Claims.{WalkCollects};
-ghost use Rattle.codes.specs.ContractsOfWalk.{held, Walked, OneMore};
+ghost use Rattle.codes.specs.ContractsOfWalk.{held, Collected, OneMore};
 
 use crate::code::Code;
 use crate::table::{multiple, multiples};
@@ -70,7 +70,7 @@ fn with_column(code: Code, walk: Walk, i: usize, column: u8) -> Walk
 
 // One walk over columns, from the last to the first.
 fn walk_columns(code: Code, columns: [u8; ROOM]) -> Walk
-    ensures { Walked (projection code).rows (projection code).matrix (held (projection code) columns) result }
+    ensures { Collected (projection code).rows (projection code).matrix (held (projection code) columns) result }
 {
     let mut walk = Walk {
         parities: 0,

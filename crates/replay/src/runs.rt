@@ -10,7 +10,7 @@ use crate::answers::{
 };
 use crate::calls::{CallNumbers, FLIP, LOAD, MARK, Next, PUT, READ, SURVEY, next_call};
 
-// The numbers of any answer to a put, list of puts, flip, mark or clear: the refusal's number or 0, and the count of values, which is 0.
+// The numbers of any answer to a put, flip, mark or clear: the refusal's number or 0, and the count of values, which is 0.
 const CHANGE_ROOM: usize = 2;
 
 // How many numbers a call took and its answer has, or that no call ran.
@@ -88,7 +88,7 @@ fn run_list(b: &mut [u8], start: u64, count: usize, numbers: &[u64], out: &mut [
     ensures { RunsCall (list_with start count numbers.now)
         b.old out.old b.new out.new result }
 {
-    if out.len() < CHANGE_ROOM {
+    if out.len() < 2 {
         return Written::NoRoom;
     }
     let steps = &numbers[..count];

@@ -7,7 +7,7 @@ use Rattle.codes.specs.Projection.{wanted}
 use Rattle.codes.specs.Word.{word, is_codeword}
 use Rattle.codes.specs.Codes.{projection}
 use Rattle.codes.specs.Claims.{WalkCollects}
-use Rattle.codes.proofs.Strict.{is_codeword_by}
+use Rattle.codes.proofs.Strict.{walked_codeword}
 use Rattle.codes.proofs.Words.{length_word}
 use Rattle.codes.proofs.calls.is_codeword.Statement.{statement}
 use Rattle.codes.proofs.calls.is_codeword.Tie as tie
@@ -15,7 +15,7 @@ use Rattle.codes.proofs.calls.is_codeword.Tie as tie
 returns : tie.Need-returns-then-walk-ne0
 returns c w k =
     let a = c.args in
-    rw (is_codeword_by a.code w a.walk k, ne_eqb a.walk.syndrome 0 c.if-walk-ne0.true)
+    rw (walked_codeword a.code w a.walk k, ne_eqb a.walk.syndrome 0 c.if-walk-ne0.true)
 
 is-first-odd-requires : tie.Need-is_first_odd-odd-requires
 is-first-odd-requires c κs = search rules
@@ -38,7 +38,7 @@ by_tests c w k e =
     let cs = word π w in
     let first = c.is_first_odd-odd.ensures in
     let lacks = c.lacking.ensures (map parity cs) (length-map cs parity ∙ length_word π w) k.parities in
-    is_codeword_by a.code w a.walk k
+    walked_codeword a.code w a.walk k
     ∙ rw (eq-eqb a.walk.syndrome 0 c.if-walk-ne0.false, ← first, ← lacks, e)
 
 returns-2 : tie.Need-returns-then-lacking-ne0

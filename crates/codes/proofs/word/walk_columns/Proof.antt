@@ -4,7 +4,7 @@ use Rattle.codes.specs.declared.code.Code.{Code}
 use Rattle.codes.specs.declared.word.Walk.{Walk}
 use Rattle.codes.specs.Projection.{size}
 use Rattle.codes.specs.Codes.{projection}
-use Rattle.codes.specs.ContractsOfWalk.{held, Walked}
+use Rattle.codes.specs.ContractsOfWalk.{held, Collected}
 use Rattle.codes.proofs.Codes.{size_le}
 use Rattle.codes.proofs.Walks.{walk_start, parities_lt, length_held, held_at}
 use Rattle.codes.proofs.word.walk_columns.Statement.{statement}
@@ -12,7 +12,7 @@ use Rattle.codes.proofs.word.walk_columns.Tie as tie
 
 -- everything is collected of the columns from i on
 abbrev From : Code → List ℕ → Walk → ℕ → Type 0
-From code a walk i = Walked (projection code).rows (drop i (projection code).matrix) (drop i (held (projection code) a)) walk
+From code a walk i = Collected (projection code).rows (drop i (projection code).matrix) (drop i (held (projection code) a)) walk
 
 abbrev invariant-loop : tie.invariant-loop-i
 invariant-loop code columns walk₀ i₀ walk i = (i ≤ 10) × From code columns walk i

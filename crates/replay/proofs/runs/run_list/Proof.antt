@@ -10,7 +10,7 @@ use borrow.Author.Rules.{rules}
 use Rattle.replay.proofs.runs.run_list.Statement.{statement}
 use Rattle.replay.proofs.runs.run_list.Tie as tie
 
-returns : tie.Need-returns-then-out-lt-CHANGE_ROOM
+returns : tie.Need-returns-then-out-lt2
 returns c =
     let a = c.args in
     (omega (arith, two_numbers (on_bytes (list_with a.start a.count a.numbers.now) a.b.now).answer), refl, refl)
