@@ -86,7 +86,7 @@ def taken(text, crates):
 
 
 def parts(text):
-    """The text of a .rt file in parts: whether a part is a clause, a ghost import or a comment, and the part."""
+    """A text in parts, its strings apart: whether a part is none, and the part."""
     at = 0
     for m in re.finditer(r'b?"(?:\\.|[^"\\])*"', text, re.S):
         yield True, text[at:m.start()]
@@ -148,7 +148,7 @@ def main():
         return "".join(out) + names(text[at:], kept)
 
     for p, t in texts.items():
-        new = "".join(turn(x, kept[p]) if code else x for code, x in parts(t)) if p.endswith(".rt") else turn(t, kept[p])
+        new = "".join(turn(x, kept[p]) if code else x for code, x in parts(t))
         if new != before[p]:
             with open(p, "w", encoding="utf-8") as f:
                 f.write(new)

@@ -122,7 +122,7 @@ pub record AnswerLines : Type 0 where
 
 -- what can't be played: a tab, an escape and a backslash are made visible, and a long line is cut
 pub record TroubleLines : Type 0 where
-  pub unreadable : trouble_line 31 Trouble.Unreadable (text "jump\t3 \u{1b}[2J \\") ≡ text "line 31 unreadable: jump\\x093 \\x1_b[2J \\x5_c\n"
+  pub unreadable : trouble_line 31 Trouble.Unreadable (text "jump\t3 \u{1b}[2J \\") ≡ text "line 31 unreadable: jump\\x093 \\x1B[2J \\x5C\n"
   pub not_lent : trouble_line 1 Trouble.NotLent (text "more than 65536 bytes") ≡ text "line 1 not lent: more than 65536 bytes\n"
   pub not_read : trouble_line 2 Trouble.NotRead (text "gone.trace") ≡ text "line 2 not read: gone.trace\n"
   pub not_written : trouble_line 3 Trouble.NotWritten (text "/") ≡ text "line 3 not written: /\n"

@@ -1,7 +1,7 @@
 -- The numbers that the calls for C return. Each call answers by its table (demand 1), whose numbers are none of them 0; an accepted call returns 0
 -- and a refused one the number, with what is lent as it was. A survey is refused alike in whatever form its values are given.
 use Prim.Native.Nat.{ℕ}
-use mathlib.Core.Path.{◌≡◌, refl, sym, ap, ◌∙◌}
+use mathlib.Core.Path.{◌≡◌, refl, sym, ap, ◌∙◌, subst}
 use mathlib.Core.Bool.{Bool, true, not}
 use mathlib.Core.Logic.{inl, inr, ◌↔◌}
 use mathlib.Core.List.{List, [], ◌∷◌}
@@ -53,7 +53,7 @@ module _ {order : List ℕ} {rows : List Row} (some : positive order ≡ true) w
   by_values : (a : Answer (List ℕ)) (out : List ℕ) → ByTable order rows a → ReturnsBy order rows out (returns a out)
   by_values a out by =
       record {
-        among = rw (returned_number a) (number_among a by);
+        among = subst (λ n. Among n (0 ∷ order)) (sym (returned_number a)) (number_among a by);
         zero = rw (returned_number a) (number_zero a by);
         first = λ n e. returned_number a ∙ number_first a by n e;
         unchanged = λ n e. ap (λ a. (returns a out).held) ((by.refuses n).1 e);

@@ -66,7 +66,7 @@ pub record LinesMean : Type 0 where
 -- what they lend, which file they name, and what lent bytes make of a buffer
 pub record LinesLend : Type 0 where
   pub size : line_lends (text "buffer 100000") ≡ some (zeros 100000)
-  pub pairs : line_lends (text "hex 00 f_f\t2c ") ≡ some (0x00 ∷ 0xFF ∷ 0x2C ∷ [])
+  pub pairs : line_lends (text "hex 00 fF\t2c ") ≡ some (0x00 ∷ 0xFF ∷ 0x2C ∷ [])
   pub digits : line_lends (text "hex 09AFaf") ≡ some (0x09 ∷ 0xAF ∷ 0xAF ∷ [])
   pub no_digits : map hex_value (text "/:@G`g") ≡ replicate 6 16
   pub call : line_lends (text "read 0") ≡ none

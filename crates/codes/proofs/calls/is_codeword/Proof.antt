@@ -12,12 +12,12 @@ use Rattle.codes.proofs.Words.{length_word}
 use Rattle.codes.proofs.calls.is_codeword.Statement.{statement}
 use Rattle.codes.proofs.calls.is_codeword.Tie as tie
 
-returns : tie.Need-returns
+returns : tie.Need-returns-then-walk-ne0
 returns c w k =
-    let a = c.before.before.args in
-    rw (is_codeword_by a.code w a.walk k, ne_eqb a.walk.syndrome 0 c.if1.true)
+    let a = c.args in
+    rw (is_codeword_by a.code w a.walk k, ne_eqb a.walk.syndrome 0 c.if-walk-ne0.true)
 
-is-first-odd-requires : tie.Need-is-first-odd-requires
+is-first-odd-requires : tie.Need-is_first_odd-odd-requires
 is-first-odd-requires c κs = search rules
 
 lacking-requires : tie.Need-lacking-requires
@@ -31,27 +31,27 @@ entry c = c.before.before.before.before
 by_tests : (c : tie.After-lacking) (w : ℕ) {none : Bool} →
     WalkCollects (entry c).args.code w (entry c).args.walk → eqb c.lacking.result 0 ≡ none →
     is_codeword (projection (entry c).args.code) (word (projection (entry c).args.code) w)
-    ≡ none && beq (entry c).args.walk.top (wanted (projection (entry c).args.code).rule c.before.is_first_odd.result)
+    ≡ none && beq (entry c).args.walk.top (wanted (projection (entry c).args.code).rule c.is_first_odd-odd.result)
 by_tests c w k e =
     let a = (entry c).args in
     let π = projection a.code in
     let cs = word π w in
-    let first = c.before.is_first_odd.ensures in
+    let first = c.is_first_odd-odd.ensures in
     let lacks = c.lacking.ensures (map parity cs) (length-map cs parity ∙ length_word π w) k.parities in
     is_codeword_by a.code w a.walk k
-    ∙ rw (eq-eqb a.walk.syndrome 0 c.before.before.if1.false, ← first, ← lacks, e)
+    ∙ rw (eq-eqb a.walk.syndrome 0 c.if-walk-ne0.false, ← first, ← lacks, e)
 
-returns-2 : tie.Need-returns-2
-returns-2 c w k = sym (by_tests c.before w k (ne_eqb c.before.lacking.result 0 c.if2.true))
+returns-2 : tie.Need-returns-then-lacking-ne0
+returns-2 c w k = sym (by_tests c.before w k (ne_eqb c.lacking.result 0 c.if-lacking-ne0.true))
 
-top-parity-requires : tie.Need-top-parity-requires
+top-parity-requires : tie.Need-top_parity-requires
 top-parity-requires c κs = search rules
 
-returns-3 : tie.Need-returns-3
+returns-3 : tie.Need-returns
 returns-3 c w k =
     let tested = c.before.before in
-    ap (beq (entry tested.before).args.walk.top) c.before.top_parity.ensures
-    ∙ sym (by_tests tested.before w k (eq-eqb tested.before.lacking.result 0 tested.if2.false))
+    ap (beq (entry tested.before).args.walk.top) c.top_parity.ensures
+    ∙ sym (by_tests tested.before w k (eq-eqb tested.lacking.result 0 tested.if-lacking-ne0.false))
 
 pub is_codeword_spec : {M : Type 1} → statement M
 is_codeword_spec =

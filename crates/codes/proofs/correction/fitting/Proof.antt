@@ -12,13 +12,13 @@ use Rattle.codes.proofs.Corrections.{fitting_near, fitting_far, fitting_none}
 use Rattle.codes.proofs.correction.fitting.Statement.{statement}
 use Rattle.codes.proofs.correction.fitting.Tie as tie
 
-within-three-requires : tie.Need-within-three-requires
+within-three-requires : tie.Need-within_three-found-requires
 within-three-requires c κs = search rules
 
-returns : tie.Need-returns
+returns : tie.Need-returns-then-found-ge-NONE
 returns c =
-    let a = c.before.before.args in
-    sought_none (fitting_none (projection a.code) a.word a.marks a.filled (c.before.within_three.ensures.none c.if1.true))
+    let a = c.args in
+    sought_none (fitting_none (projection a.code) a.word a.marks a.filled (c.within_three-found.ensures.none c.if-found-ge-NONE.true))
 
 wrong-requires : tie.Need-wrong-requires
 wrong-requires c κs = search rules
@@ -29,49 +29,49 @@ module _ (c : tie.After-wrong) where
   entry = c.before.before.before
 
   abbrev π : Projection
-  π = projection c.before.before.before.args.code
+  π = projection c.args.code
 
   abbrev w : ℕ
-  w = c.before.before.before.args.word
+  w = c.args.word
 
   abbrev m : ℕ
-  m = c.before.before.before.args.marks
+  m = c.args.marks
 
   abbrev x : ℕ
-  x = c.before.before.within_three.result
+  x = c.within_three-found.result
 
-  found : Within π (is_codeword π) 3 c.before.before.before.args.filled x
-  found = c.before.before.within_three.ensures.found c.before.if1.false
+  found : Within π (is_codeword π) 3 c.args.filled x
+  found = c.within_three-found.ensures.found c.if-found-ge-NONE.false
 
   wrongs : c.wrong.result ≡ wrong π w m x
-  wrongs = c.wrong.ensures π entry.pre.1 entry.pre.2 found.fits
+  wrongs = c.wrong.ensures π entry.requires.1 entry.requires.2 found.fits
 
-mul_if2 : tie.Need-overflow-mul-if2
+mul_if2 : tie.Need-overflow_mul-wrong
 mul_if2 c = omega (arith, wrongs c, wrong_le (π c) (w c) (m c) (x c), size_le (entry c).args.code)
 
 ones-requires : tie.Need-ones-requires
 ones-requires c κs = search rules
 
-add_if2 : tie.Need-overflow-add-if2
+add_if2 : tie.Need-overflow_add-wrong
 add_if2 c =
     let f = c.before in
     let marks = c.ones.ensures (π f) (entry f).requires.2 in
     omega (arith, wrongs f, wrong_le (π f) (w f) (m f) (x f), ones_le (π f) (m f), size_le (entry f).args.code)
 
-returns-2 : tie.Need-returns-2
+returns-2 : tie.Need-returns-then-wrong-ones-le7
 returns-2 c =
     let f = c.before.before in
-    let marks = c.before.ones.ensures (π f) (entry f).requires.2 in
-    sought_one (x f) (fitting_near (π f) (w f) (m f) (entry f).args.filled (x f) (found f) (omega (arith, wrongs f, c.if2.true)))
-    f.before.if1.false
+    let marks = c.ones.ensures (π f) (entry f).requires.2 in
+    sought_one (x f) (fitting_near (π f) (w f) (m f) (entry f).args.filled (x f) (found f) (omega (arith, wrongs f, c.if-wrong-ones-le7.true)))
+    f.if-found-ge-NONE.false
 
-returns-3 : tie.Need-returns-3
+returns-3 : tie.Need-returns
 returns-3 c =
     let f = c.before.before in
     let code = (entry f).args.code in
-    let marks = c.before.ones.ensures (π f) (entry f).requires.2 in
+    let marks = c.ones.ensures (π f) (entry f).requires.2 in
     sought_none
-    (fitting_far (π f) (w f) (m f) (systematic code) (apart code) (entry f).args.filled (x f) (found f) (omega (arith, wrongs f, c.if2.false)))
+    (fitting_far (π f) (w f) (m f) (systematic code) (apart code) (entry f).args.filled (x f) (found f) (omega (arith, wrongs f, c.if-wrong-ones-le7.false)))
 
 pub fitting_spec : {M : Type 1} → statement M
 fitting_spec =

@@ -5,7 +5,7 @@ use Rattle.codes.proofs.Nearness.{count_ones}
 use Rattle.codes.proofs.correction.ones.Statement.{statement}
 use Rattle.codes.proofs.correction.ones.Tie as tie
 
-cast_result : tie.Need-overflow-cast-result
+cast_result : tie.Need-overflow_cast-result
 cast_result c = omega (arith, ones-le 64 c.args.packed (omega arith))
 
 returns : tie.Need-returns

@@ -11,7 +11,7 @@ ones-requires c κs = search rules
 
 returns : tie.Need-returns
 returns c =
-    let a = c.before.args in
+    let a = c.args in
     λ π hw hm hx.
     c.ones.ensures π (xor_lt (width π) _ a.marks (or_lt (width π) _ a.marks (xor_lt (width π) a.codeword a.word hx hw) hm) hm)
     ∙ ones_wrong π a.word a.marks a.codeword

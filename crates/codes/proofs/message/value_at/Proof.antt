@@ -17,75 +17,75 @@ parted : (s : tie.Start) →
 parted s =
     rw (systematic s.args.code).flags at (count_behind (projection s.args.code).free s.args.column)
 
-columns-requires : tie.Need-columns-requires
+columns-requires : tie.Need-columns-last-requires
 columns-requires c κs = search rules
 
-sub_last : tie.Need-overflow-sub-last
+sub_last : tie.Need-overflow_sub-last
 sub_last c = search rules
 
-free-behind-requires : tie.Need-free-behind-requires
+free-behind-requires : tie.Need-free_behind-free-requires
 free-behind-requires c κs = search rules
 
-is-free-requires : tie.Need-is-free-requires
+is-free-requires : tie.Need-is_free-requires
 is-free-requires c κs = search rules
 
-mul_result : tie.Need-overflow-mul-result
+mul_result : tie.Need-overflow_mul-result
 mul_result c = let s = c.before.before.before.before in omega (arith, parted s, size_le s.args.code)
 
-add_result : tie.Need-overflow-add-result
+add_result : tie.Need-overflow_add-result
 add_result c =
     let s = c.before.before.before.before in
-    omega (arith, parted s, size_le s.args.code, c.before.before.before.columns.ensures)
+    omega (arith, parted s, size_le s.args.code, c.columns-last.ensures)
 
-shr_result : tie.Need-overflow-shr-result
+shr_result : tie.Need-overflow_shr-result
 shr_result c =
     let s = c.before.before.before.before in
-    omega (arith, parted s, size_le s.args.code, c.before.before.before.columns.ensures)
+    omega (arith, parted s, size_le s.args.code, c.columns-last.ensures)
 
-cast_result : tie.Need-overflow-cast-result
+cast_result : tie.Need-overflow_cast-result
 cast_result c = search rules
 
-returns : tie.Need-returns
+returns : tie.Need-returns-then-is_free
 returns c =
     let s = c.before.before.before.before in
     let a = s.args in
     let π = projection a.code in
-    let columns = c.before.before.before.columns in
-    let free = c.before.before.free_behind in
+    let columns = c.columns-last in
+    let free = c.free_behind-free in
     let last : columns.result - 1 ≡ top_bits π = omega (arith, columns.ensures) in
     numbers.symbols.modulo (a.message / 2 ^ (columns.result - 1 + 2 * free.result))
     ∙ rw (last, free.ensures, ← shift_shift a.message (top_bits π) (count (drop (suc a.column) π.free)))
     (sym (value_from π.free a.column (omega (arith, s.requires, (systematic a.code).flags)) (a.message / 2 ^ top_bits π) a.syndrome
-    (sym c.before.is_free.ensures ∙ c.if1.true)))
+    (sym c.is_free.ensures ∙ c.if-is_free.true)))
 
-sub_others : tie.Need-overflow-sub-others
+sub_others : tie.Need-overflow_sub-others
 sub_others c = search rules
 
-sub_others_2 : tie.Need-overflow-sub-others-2
-sub_others_2 c = let s = c.before.before.before.before in omega (arith, parted s, c.before.before.before.columns.ensures)
+sub_others_2 : tie.Need-overflow_sub-others-2
+sub_others_2 c = let s = c.before.before.before.before in omega (arith, parted s, c.columns-last.ensures)
 
-mul_result_2 : tie.Need-overflow-mul-result-2
-mul_result_2 c = let s = c.before.before.before.before in omega (arith, size_le s.args.code, c.before.before.before.columns.ensures)
+mul_result_2 : tie.Need-overflow_mul-result-2
+mul_result_2 c = let s = c.before.before.before.before in omega (arith, size_le s.args.code, c.columns-last.ensures)
 
-shr_result_2 : tie.Need-overflow-shr-result-2
-shr_result_2 c = let s = c.before.before.before.before in omega (arith, size_le s.args.code, c.before.before.before.columns.ensures)
+shr_result_2 : tie.Need-overflow_shr-result-2
+shr_result_2 c = let s = c.before.before.before.before in omega (arith, size_le s.args.code, c.columns-last.ensures)
 
-cast_result_2 : tie.Need-overflow-cast-result-2
+cast_result_2 : tie.Need-overflow_cast-result-3
 cast_result_2 c = search rules
 
-returns-2 : tie.Need-returns-2
+returns-2 : tie.Need-returns
 returns-2 c =
     let s = c.before.before.before.before in
     let a = s.args in
     let π = projection a.code in
-    let columns = c.before.before.before.columns in
-    let free = c.before.before.free_behind in
+    let columns = c.columns-last in
+    let free = c.free_behind-free in
     let others : columns.result - 1 - a.column - free.result ≡ count (map not (drop (suc a.column) π.free)) =
     omega (arith, parted s, free.ensures, columns.ensures) in
     numbers.symbols.modulo (a.syndrome / 2 ^ (2 * (columns.result - 1 - a.column - free.result)))
     ∙ rw (others, ← pow_mul 2 2 (count (map not (drop (suc a.column) π.free))))
     (sym (value_from π.free a.column (omega (arith, s.requires, (systematic a.code).flags)) (a.message / 2 ^ top_bits π) a.syndrome
-    (sym c.before.is_free.ensures ∙ c.if1.false)))
+    (sym c.is_free.ensures ∙ c.if-is_free.false)))
 
 pub value_at_spec : {M : Type 1} → statement M
 value_at_spec =

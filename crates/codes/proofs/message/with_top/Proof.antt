@@ -8,16 +8,16 @@ use Rattle.codes.proofs.message.with_top.Tie as tie
 columns-requires : tie.Need-columns-requires
 columns-requires c κs = search rules
 
-add_if1 : tie.Need-overflow-add-if1
+add_if1 : tie.Need-overflow_add-i
 add_if1 c = search rules
 
-returns : tie.Need-returns
+returns : tie.Need-returns-then-columns-i
 returns c =
-    let a = c.before.before.args in
-    let behind : top_bits (projection a.code) ≤ a.i = omega (arith, c.before.columns.ensures) in
+    let a = c.args in
+    let behind : top_bits (projection a.code) ≤ a.i = omega (arith, c.columns.ensures) in
     rw (le-ltb a.i (top_bits (projection a.code)) behind)
 
-mul_result : tie.Need-overflow-mul-result
+mul_result : tie.Need-overflow_mul-result
 mul_result c = search rules
 
 top-requires : tie.Need-top-requires
@@ -26,17 +26,17 @@ top-requires c κs = search rules
 one-requires : tie.Need-one-requires
 one-requires c κs = search rules
 
-cast_result : tie.Need-overflow-cast-result
+cast_result : tie.Need-overflow_cast-result
 cast_result c = search rules
 
-add_result : tie.Need-overflow-add-result
+add_result : tie.Need-overflow_add-result
 add_result c = search rules
 
-returns-2 : tie.Need-returns-2
+returns-2 : tie.Need-returns
 returns-2 c =
-    let a = c.before.before.before.before.args in
-    let before : a.i < top_bits (projection a.code) = omega (arith, c.before.before.before.columns.ensures) in
-    rw (c.one.ensures, c.before.top.ensures, lt-ltb a.i (top_bits (projection a.code)) before)
+    let a = c.args in
+    let before : a.i < top_bits (projection a.code) = omega (arith, c.columns.ensures) in
+    rw (c.one.ensures, c.top.ensures, lt-ltb a.i (top_bits (projection a.code)) before)
 
 pub with_top_spec : {M : Type 1} → statement M
 with_top_spec =

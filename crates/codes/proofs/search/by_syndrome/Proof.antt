@@ -11,55 +11,55 @@ use Rattle.codes.proofs.Syndromes.{zero_here, zero_off, none_unnamed, pair_inver
 use Rattle.codes.proofs.search.by_syndrome.Statement.{statement}
 use Rattle.codes.proofs.search.by_syndrome.Tie as tie
 
-returns : tie.Need-returns
+returns : tie.Need-returns-then-trial
 returns c =
-    let a = c.before.before.args in
+    let a = c.args in
     λ k l h p left.
     sought_none
     (zero_off left.known (lacks_none p (word (projection a.code) a.trial.word) left.places) k (searchable a.code)
-    c.before.if1.true c.if2.true h)
+    c.if-syndrome-eq0.true c.if-trial.true h)
 
-returns-2 : tie.Need-returns-2
+returns-2 : tie.Need-returns-then-syndrome-eq0
 returns-2 c =
-    let a = c.before.before.args in
+    let a = c.args in
     λ k l h p left.
     sought_word (searchable a.code)
-    (zero_here left.known (lacks_none p (word (projection a.code) a.trial.word) left.places) k c.before.if1.true c.if2.false)
+    (zero_here left.known (lacks_none p (word (projection a.code) a.trial.word) left.places) k c.if-syndrome-eq0.true c.if-trial.false)
 
-entry-requires : tie.Need-entry-requires
+entry-requires : tie.Need-entry-named-requires
 entry-requires c κs = search rules
 
-returns-3 : tie.Need-returns-3
+returns-3 : tie.Need-returns-then-named-eq0
 returns-3 c =
-    let a = c.before.before.before.args in
+    let a = c.args in
     λ k l h p left.
     sought_none
     (none_unnamed left.known (lacks_none p (word (projection a.code) a.trial.word) left.places) k (searchable a.code)
-    c.before.before.if1.false (sym c.before.entry.ensures ∙ c.if3.true) h)
+    c.if-syndrome-eq0.false (sym c.entry-named.ensures ∙ c.if-named-eq0.true) h)
 
 -- what the entry that was read names
-named : (e : tie.Else3) → Named (projection e.before.before.before.args.code) e.before.before.before.args.trial.syndrome e.before.entry.result
+named : (e : tie.Else-named-eq0) → Named (projection e.args.code) e.args.trial.syndrome e.entry-named.result
 named e =
-    let a = e.before.before.before.args in
-    rw e.before.entry.ensures (entry_names (projection a.code) a.trial.syndrome (λ z. e.if3.false (e.before.entry.ensures ∙ z)))
+    let a = e.args in
+    rw e.entry-named.ensures (entry_names (projection a.code) a.trial.syndrome (λ z. e.if-named-eq0.false (e.entry-named.ensures ∙ z)))
 
-column-with-requires : tie.Need-column-with-requires
+column-with-requires : tie.Need-column_with-pair-requires
 column-with-requires c κs = search rules
 
-sub_inverted : tie.Need-overflow-sub-inverted
+sub_inverted : tie.Need-overflow_sub-named
 sub_inverted c = omega (arith, (named c.before).from)
 
-cast_inverted : tie.Need-overflow-cast-inverted
+cast_inverted : tie.Need-overflow_cast-named
 cast_inverted c = search rules
 
 inverted-requires : tie.Need-inverted-requires
-inverted-requires c κs = ((named c.before).place, rw c.column_with.ensures (numbers.columns.small (column_with _ _ _)))
+inverted-requires c κs = ((named c.before).place, rw c.column_with-pair.ensures (numbers.columns.small (column_with _ _ _)))
 
-returns-4 : tie.Need-returns-4
+returns-4 : tie.Need-returns
 returns-4 c =
     let e = c.before.before in
-    let a = e.before.before.before.args in
-    let pair = c.before.column_with in
+    let a = e.args in
+    let pair = c.column_with-pair in
     λ k l h p left.
     rw c.inverted.ensures
     (sought_word (searchable a.code)

@@ -15,7 +15,7 @@ inside s =
     let set = s.requires.1 in
     rw set.masks (omega (arith, lowest_first 64 l set.some (omega (arith, set.long, size_le s.args.code)), first_lt l set.some, set.long))
 
-cast_place : tie.Need-overflow-cast-place
+cast_place : tie.Need-overflow_cast-place
 cast_place c = omega (arith, trailing_le 64 c.args.columns)
 
 multiples-requires : tie.Need-multiples-requires

@@ -5,20 +5,20 @@ use Rattle.codes.proofs.Masks.{four_set}
 use Rattle.codes.proofs.search.has_four.Statement.{statement}
 use Rattle.codes.proofs.search.has_four.Tie as tie
 
-without-first-requires : tie.Need-without-first-requires
+without-first-requires : tie.Need-without_first-requires
 without-first-requires c κs = search rules
 
-without-first-requires-2 : tie.Need-without-first-requires-2
+without-first-requires-2 : tie.Need-without_first-requires-2
 without-first-requires-2 c κs = search rules
 
-without-first-requires-3 : tie.Need-without-first-requires-3
+without-first-requires-3 : tie.Need-without_first-requires-3
 without-first-requires-3 c κs = search rules
 
 returns : tie.Need-returns
 returns c =
     λ l e.
     four_set l
-    (c.without_first3.ensures (cleared (cleared l)) (c.before.without_first2.ensures (cleared l) (c.before.before.without_first.ensures l e)))
+    (c.without_first-3.ensures (cleared (cleared l)) (c.without_first-2.ensures (cleared l) (c.without_first.ensures l e)))
 
 pub has_four_spec : {M : Type 1} → statement M
 has_four_spec =

@@ -8,24 +8,24 @@ use Rattle.codes.proofs.search.inverted.Tie as tie
 columns-requires : tie.Need-columns-requires
 columns-requires c κs = search rules
 
-sub_result : tie.Need-overflow-sub-result
+sub_result : tie.Need-overflow_sub-result
 sub_result c = search rules
 
-sub_result_2 : tie.Need-overflow-sub-result-2
+sub_result_2 : tie.Need-overflow_sub-result-2
 sub_result_2 c = search rules
 
-mul_result : tie.Need-overflow-mul-result
-mul_result c = omega (arith, size_le c.before.args.code)
+mul_result : tie.Need-overflow_mul-result
+mul_result c = omega (arith, size_le c.args.code)
 
-shl_result : tie.Need-overflow-shl-result
-shl_result c = omega (arith, size_le c.before.args.code)
+shl_result : tie.Need-overflow_shl-result
+shl_result c = omega (arith, size_le c.args.code)
 
 returns : tie.Need-returns
 returns c =
-    let a = c.before.args in
+    let a = c.args in
     let after = c.columns.result - 1 - a.column in
     ap (bit_xor a.word)
-    (shl_exact 4 (4 * after) 64 c.before.requires.1 (omega (arith, size_le a.code))
+    (shl_exact 4 (4 * after) 64 c.requires.1 (omega (arith, size_le a.code))
     ∙ rw c.columns.ensures)
 
 pub inverted_spec : {M : Type 1} → statement M

@@ -5,7 +5,7 @@ use Rattle.codes.proofs.Seeking.{row_small}
 use Rattle.codes.proofs.search.with_row.Statement.{statement}
 use Rattle.codes.proofs.search.with_row.Tie as tie
 
-shr_inverted : tie.Need-overflow-shr-inverted
+shr_inverted : tie.Need-overflow_shr-row
 shr_inverted c = search rules
 
 inverted-requires : tie.Need-inverted-requires
@@ -19,8 +19,8 @@ returns c =
     let s = c.before.before.before.before in
     let row = s.args.row in
     rw (
-      c.before.before.before.inverted.ensures,
-      c.before.before.multiple.ensures,
+      c.inverted.ensures,
+      c.multiple.ensures,
       s.requires.0.multiples row s.requires.1,
       exclusive_or.unequal s.args.trial.off (eqb row 0),
     )

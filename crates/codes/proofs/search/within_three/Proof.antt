@@ -24,27 +24,27 @@ parities s = map parity (columns s)
 long : (s : tie.Start) → length (parities s) ≡ size (projection s.args.code)
 long s = length-map (columns s) parity ∙ length_word (projection s.args.code) s.args.word
 
-walk-requires : tie.Need-walk-requires
+walk-requires : tie.Need-walk-walk-requires
 walk-requires c κs = search rules
 
-has-four-requires : tie.Need-has-four-requires
+has-four-requires : tie.Need-has_four-odd-requires
 has-four-requires c κs = search rules
 
 lacking-requires : tie.Need-lacking-requires
 lacking-requires c κs =
-    let a = c.before.before.args in
-    parities_below a.code a.word c.before.walk.result c.before.walk.ensures
+    let a = c.args in
+    parities_below a.code a.word c.walk-walk.result c.walk-walk.ensures
 
-of-parity-requires : tie.Need-of-parity-requires
+of-parity-requires : tie.Need-of_parity-requires
 of-parity-requires c κs =
     let w = c.before.before in
     let s = w.before in
-    let odd = c.before.has_four.result in (
+    let odd = c.has_four-odd.result in (
       record {
         fits = s.requires;
-        masks = c.lacking.ensures (parities s) (long s) w.walk.ensures.parities ∙ ap mask (sym (lacking_parities odd (columns s)));
+        masks = c.lacking.ensures (parities s) (long s) w.walk-walk.ensures.parities ∙ ap mask (sym (lacking_parities odd (columns s)));
       },
-      w.walk.ensures,
+      w.walk-walk.ensures,
     )
 
 returns : tie.Need-returns
@@ -52,7 +52,7 @@ returns c =
     let f = c.before.before in
     let w = f.before in
     let s = w.before in
-    sought_majority (searchable s.args.code) f.has_four.result (f.has_four.ensures (parities s) w.walk.ensures.parities)
+    sought_majority (searchable s.args.code) f.has_four-odd.result (f.has_four-odd.ensures (parities s) w.walk-walk.ensures.parities)
     c.of_parity.ensures
 
 pub within_three_spec : {M : Type 1} → statement M

@@ -4,7 +4,7 @@ use Rattle.codes.proofs.Masks.{before_mask}
 use Rattle.codes.proofs.search.without_first.Statement.{statement}
 use Rattle.codes.proofs.search.without_first.Tie as tie
 
-wrapping-sub-u64-requires : tie.Need-wrapping-sub-u64-requires
+wrapping-sub-u64-requires : tie.Need-wrapping_sub_u64-requires
 wrapping-sub-u64-requires c κs = search rules
 
 returns : tie.Need-returns

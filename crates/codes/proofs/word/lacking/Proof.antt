@@ -11,25 +11,25 @@ use Rattle.codes.proofs.word.lacking.Tie as tie
 columns-requires : tie.Need-columns-requires
 columns-requires c κs = search rules
 
-shl_result : tie.Need-overflow-shl-result
-shl_result c = omega (arith, c.columns.ensures, size_le c.before.before.args.code)
+shl_result : tie.Need-overflow_shl-result
+shl_result c = omega (arith, c.columns.ensures, size_le c.args.code)
 
 -- all columns, as a mask with a bit more
-all_columns : (c : tie.After-columns) → (1 * 2 ^ c.columns.result) % 2 ^ 64 ≡ 2 ^ size (projection c.before.before.args.code)
+all_columns : (c : tie.After-columns) → (1 * 2 ^ c.columns.result) % 2 ^ 64 ≡ 2 ^ size (projection c.args.code)
 all_columns c =
-    power_fits c.columns.result (omega (arith, c.columns.ensures, size_le c.before.before.args.code)) ∙ rw c.columns.ensures
+    power_fits c.columns.result (omega (arith, c.columns.ensures, size_le c.args.code)) ∙ rw c.columns.ensures
 
-sub_result : tie.Need-overflow-sub-result
-sub_result c = omega (arith, all_columns c, c.before.before.requires)
+sub_result : tie.Need-overflow_sub-result
+sub_result c = omega (arith, all_columns c, c.requires)
 
-sub_result_2 : tie.Need-overflow-sub-result-2
-sub_result_2 c = omega (arith, all_columns c, c.before.before.requires)
+sub_result_2 : tie.Need-overflow_sub-result-then-odd
+sub_result_2 c = omega (arith, all_columns c, c.requires)
 
-returns : tie.Need-returns
-returns c l long e = rw (c.before.if1.true, parity_true l) (omega (arith, all_columns c, mask_others l, ap (λ k. 2 ^ k) long))
+returns : tie.Need-returns-then-odd
+returns c l long e = rw (c.if-odd.true, parity_true l) (omega (arith, all_columns c, mask_others l, ap (λ k. 2 ^ k) long))
 
-returns-2 : tie.Need-returns-2
-returns-2 c l long e = rw (c.if1.false, parity_false l) e
+returns-2 : tie.Need-returns
+returns-2 c l long e = rw (c.if-odd.false, parity_false l) e
 
 pub lacking_spec : {M : Type 1} → statement M
 lacking_spec =

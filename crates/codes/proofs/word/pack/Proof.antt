@@ -14,55 +14,55 @@ use Rattle.codes.proofs.Walks.{length_held, held_from}
 use Rattle.codes.proofs.word.pack.Statement.{statement}
 use Rattle.codes.proofs.word.pack.Tie as tie
 
-abbrev invariant-loop : tie.invariant-loop
+abbrev invariant-loop : tie.invariant-loop-i
 invariant-loop code stored number₀ i₀ number i =
     (i ≤ size (projection code)) × (followed columns number (drop i (held (projection code) stored)) ≡ word_number (held (projection code) stored))
 
-abbrev decreases-loop : tie.decreases-loop
+abbrev decreases-loop : tie.decreases-loop-i
 decreases-loop code stored number₀ i₀ number i = size (projection code) - i
 
-loop-holds : tie.Need-loop-init invariant-loop decreases-loop
+loop-holds : tie.Need-loop-i-init invariant-loop decreases-loop
 loop-holds c = (omega arith, omega arith)
 
 columns-requires : tie.Need-columns-requires invariant-loop decreases-loop
 columns-requires c κs = search rules
 
 -- the number so far is below 2 ^ 40
-small : (c : tie.At-loop invariant-loop decreases-loop) → c.loop.number < 2 ^ 40
+small : (c : tie.At-loop-i invariant-loop decreases-loop) → c.loop-i.number < 2 ^ 40
 small c =
-    let code = c.before.args.code in
-    let a = c.before.args.t2 in
+    let code = c.args.code in
+    let a = c.args.columns in
     omega (
       arith,
-      followed_le columns columns_fit c.loop.number (drop c.loop.i (held (projection code) a)),
-      c.loop.invariant.1,
+      followed_le columns columns_fit c.loop-i.number (drop c.loop-i.i (held (projection code) a)),
+      c.loop-i.invariant.1,
       word_below (held (projection code) a) (omega (arith, length_held (projection code) a (omega (arith, size_le code)), size_le code)),
     )
 
-mul_number : tie.Need-overflow-mul-number invariant-loop decreases-loop
+mul_number : tie.Need-overflow_mul-number invariant-loop decreases-loop
 mul_number c = omega (arith, small c.before.before)
 
-array_read_number : tie.Need-array-read-number invariant-loop decreases-loop
-array_read_number c = omega (arith, c.before.columns.ensures, size_le c.before.before.before.args.code)
+array_read_number : tie.Need-bounds-columns-i invariant-loop decreases-loop
+array_read_number c = omega (arith, c.columns.ensures, size_le c.args.code)
 
-cast_number : tie.Need-overflow-cast-number invariant-loop decreases-loop
+cast_number : tie.Need-overflow_cast-number invariant-loop decreases-loop
 cast_number c = omega arith
 
-add_number : tie.Need-overflow-add-number invariant-loop decreases-loop
+add_number : tie.Need-overflow_add-number invariant-loop decreases-loop
 add_number c = omega (arith, small c.before.before)
 
-add_i : tie.Need-overflow-add-i invariant-loop decreases-loop
-add_i c = omega (arith, c.before.columns.ensures, size_le c.before.before.before.args.code)
+add_i : tie.Need-overflow_add-i invariant-loop decreases-loop
+add_i c = omega (arith, c.columns.ensures, size_le c.args.code)
 
-loop-less : tie.Need-loop-smaller invariant-loop decreases-loop
-loop-less c = omega (arith, c.before.columns.ensures)
+loop-less : tie.Need-loop-i-smaller invariant-loop decreases-loop
+loop-less c = omega (arith, c.columns.ensures)
 
-loop-again : tie.Need-loop-preserved invariant-loop decreases-loop
+loop-again : tie.Need-loop-i-preserved invariant-loop decreases-loop
 loop-again c =
-    let code = c.before.before.before.args.code in
-    let a = c.before.before.before.args.t2 in
-    let l = c.before.before.loop in
-    let below : l.i < size (projection code) = omega (arith, c.before.columns.ensures) in
+    let code = c.args.code in
+    let a = c.args.columns in
+    let l = c.loop-i in
+    let below : l.i < size (projection code) = omega (arith, c.columns.ensures) in
     let column = column_of (get_or a l.i 0) in
     let rest = drop (suc l.i) (held (projection code) a) in (
       omega arith,
@@ -72,12 +72,12 @@ loop-again c =
 
 returns : tie.Need-returns invariant-loop decreases-loop
 returns c =
-    let code = c.before.before.before.args.code in
-    let a = c.before.before.before.args.t2 in
-    let l = c.before.before.loop in
+    let code = c.args.code in
+    let a = c.args.columns in
+    let l = c.loop-i in
     sym (followed_none columns l.number)
     ∙ ap (followed columns l.number) (sym (drop_of_length-le (held (projection code) a) {i = l.i}
-    (omega (arith, c.before.columns.ensures, length_held (projection code) a (omega (arith, size_le code))))))
+    (omega (arith, c.columns.ensures, length_held (projection code) a (omega (arith, size_le code))))))
     ∙ l.invariant.1
 
 pub pack_spec : {M : Type 1} → statement M

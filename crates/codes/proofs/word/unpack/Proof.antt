@@ -10,43 +10,43 @@ use Rattle.codes.proofs.Codes.{size_le}
 use Rattle.codes.proofs.word.unpack.Statement.{statement}
 use Rattle.codes.proofs.word.unpack.Tie as tie
 
-abbrev invariant-loop : tie.invariant-loop
+abbrev invariant-loop : tie.invariant-loop-i
 invariant-loop packed stored₀ rest₀ i₀ stored rest i =
     (i ≤ 10) × (length stored ≡ 10) × (rest ≡ rest₀ / 16 ^ (10 - i)) × (map column_of (drop i stored) ≡ digits columns (10 - i) rest₀)
 
-abbrev decreases-loop : tie.decreases-loop
+abbrev decreases-loop : tie.decreases-loop-i
 decreases-loop packed stored₀ rest₀ i₀ stored rest i = i
 
 columns-requires : tie.Need-columns-requires invariant-loop decreases-loop
 columns-requires c κs = search rules
 
-sub_rest : tie.Need-overflow-sub-rest invariant-loop decreases-loop
-sub_rest c = omega (arith, c.columns.ensures, size_le c.before.args.code)
+sub_rest : tie.Need-overflow_sub-rest invariant-loop decreases-loop
+sub_rest c = omega (arith, c.columns.ensures, size_le c.args.code)
 
-mul_rest : tie.Need-overflow-mul-rest invariant-loop decreases-loop
+mul_rest : tie.Need-overflow_mul-rest invariant-loop decreases-loop
 mul_rest c = omega arith
 
-shl_rest : tie.Need-overflow-shl-rest invariant-loop decreases-loop
+shl_rest : tie.Need-overflow_shl-rest invariant-loop decreases-loop
 shl_rest c = omega arith
 
-loop-holds : tie.Need-loop-init invariant-loop decreases-loop
+loop-holds : tie.Need-loop-i-init invariant-loop decreases-loop
 loop-holds c = (omega arith, refl, sym (div-one _), refl)
 
-sub_i : tie.Need-overflow-sub-i invariant-loop decreases-loop
+sub_i : tie.Need-overflow_sub-i invariant-loop decreases-loop
 sub_i c = omega arith
 
-cast_columns : tie.Need-overflow-cast-columns invariant-loop decreases-loop
+cast_columns : tie.Need-overflow_cast-columns invariant-loop decreases-loop
 cast_columns c = omega arith
 
-array_write_columns : tie.Need-array-write-columns invariant-loop decreases-loop
+array_write_columns : tie.Need-bounds-columns-i invariant-loop decreases-loop
 array_write_columns c = omega arith
 
-loop-less : tie.Need-loop-smaller invariant-loop decreases-loop
+loop-less : tie.Need-loop-i-smaller invariant-loop decreases-loop
 loop-less c = omega arith
 
-loop-again : tie.Need-loop-preserved invariant-loop decreases-loop
+loop-again : tie.Need-loop-i-preserved invariant-loop decreases-loop
 loop-again c =
-    let l = c.before.loop in
+    let l = c.loop-i in
     let k = 10 - l.i in
     let more : 10 - (l.i - 1) ≡ suc k = omega arith in
     let next : suc (l.i - 1) ≡ l.i = omega arith in (
@@ -58,12 +58,12 @@ loop-again c =
 
 returns : tie.Need-returns invariant-loop decreases-loop
 returns c =
-    let l = c.before.loop in
+    let l = c.loop-i in
     let start = c.before.before.before in
     let code = start.args.code in
     let first : l.i ≡ 0 = omega arith in
     aligned l.columns (size (projection code)) start.args.packed (size_le code)
-    (rw (first, c.before.before.columns.ensures) at l.invariant.3)
+    (rw (first, c.columns.ensures) at l.invariant.3)
 
 pub unpack_spec : {M : Type 1} → statement M
 unpack_spec =

@@ -14,48 +14,48 @@ use Rattle.codes.proofs.word.walk_columns.Tie as tie
 abbrev From : Code → List ℕ → Walk → ℕ → Type 0
 From code a walk i = Walked (projection code).rows (drop i (projection code).matrix) (drop i (held (projection code) a)) walk
 
-abbrev invariant-loop : tie.invariant-loop
+abbrev invariant-loop : tie.invariant-loop-i
 invariant-loop code columns walk₀ i₀ walk i = (i ≤ 10) × From code columns walk i
 
-abbrev decreases-loop : tie.decreases-loop
+abbrev decreases-loop : tie.decreases-loop-i
 decreases-loop code columns walk₀ i₀ walk i = i
 
-loop-holds : tie.Need-loop-init invariant-loop decreases-loop
+loop-holds : tie.Need-loop-i-init invariant-loop decreases-loop
 loop-holds c =
     let a = c.args in
-    (omega arith, walk_start (projection a.code) a.t2 (omega (arith, size_le a.code)) 10 (size_le a.code))
+    (omega arith, walk_start (projection a.code) a.columns (omega (arith, size_le a.code)) 10 (size_le a.code))
 
-sub_i : tie.Need-overflow-sub-i invariant-loop decreases-loop
+sub_i : tie.Need-overflow_sub-i invariant-loop decreases-loop
 sub_i c = omega arith
 
-array_read_with_column : tie.Need-array-read-with-column invariant-loop decreases-loop
+array_read_with_column : tie.Need-bounds-columns-i invariant-loop decreases-loop
 array_read_with_column c = omega arith
 
-with-column-requires : tie.Need-with-column-requires invariant-loop decreases-loop
+with-column-requires : tie.Need-with_column-walk-requires invariant-loop decreases-loop
 with-column-requires c κs =
-    let l = c.before.loop in
-    let a = c.before.before.args in
-    let cs = held (projection a.code) a.t2 in
+    let l = c.loop-i in
+    let a = c.args in
+    let cs = held (projection a.code) a.columns in
     let short : length (drop l.i cs) ≤ 63 =
-    omega (arith, length-drop l.i cs, length_held (projection a.code) a.t2 (omega (arith, size_le a.code)), size_le a.code) in
+    omega (arith, length-drop l.i cs, length_held (projection a.code) a.columns (omega (arith, size_le a.code)), size_le a.code) in
     (omega arith, lt_of_lt_of_le (parities_lt l.invariant.1) (pow_mono {i = length (drop l.i cs)} {j = 63} short))
 
-loop-less : tie.Need-loop-smaller invariant-loop decreases-loop
+loop-less : tie.Need-loop-i-smaller invariant-loop decreases-loop
 loop-less c = omega arith
 
-loop-again : tie.Need-loop-preserved invariant-loop decreases-loop
+loop-again : tie.Need-loop-i-preserved invariant-loop decreases-loop
 loop-again c =
-    let l = c.before.before.loop in
-    let a = c.before.before.before.args in
+    let l = c.loop-i in
+    let a = c.args in
     let π = projection a.code in
-    let room : size π ≤ length a.t2 = omega (arith, size_le a.code) in
+    let room : size π ≤ length a.columns = omega (arith, size_le a.code) in
     let next : suc (l.i - 1) ≡ l.i = omega arith in
-    let behind : From a.code a.t2 l.walk (suc (l.i - 1)) = rw next l.invariant.1 in
-    (omega arith, c.with_column.ensures (held π a.t2) (length_held π a.t2 room) (held_at π a.t2 room (l.i - 1)) behind)
+    let behind : From a.code a.columns l.walk (suc (l.i - 1)) = rw next l.invariant.1 in
+    (omega arith, c.with_column-walk.ensures (held π a.columns) (length_held π a.columns room) (held_at π a.columns room (l.i - 1)) behind)
 
 returns : tie.Need-returns invariant-loop decreases-loop
 returns c =
-    let l = c.before.loop in
+    let l = c.loop-i in
     let first : l.i ≡ 0 = omega arith in
     rw (first) at l.invariant.1
 

@@ -20,27 +20,27 @@ module _ (n room : ℕ) (bytes : List ℕ) (cut : n < length bytes) (fits : 2 * 
   cut_ends : (end : ℕ) → end ≡ 2 * length (take n bytes) + 1 → end ≤ room
   cut_ends end e = omega (arith, e, cut_fits)
 
-slice_aggregate_hex_line : tie.Need-slice-aggregate-hex-line
-slice_aggregate_hex_line c = sym (length-take-le longest c.before.before.before.args.bytes.now (omega arith))
+slice_aggregate_hex_line : tie.Need-slice_bounds-hex_line-end
+slice_aggregate_hex_line c = sym (length-take-le longest c.args.bytes.now (omega arith))
 
-hex-line-requires : tie.Need-hex-line-requires
-hex-line-requires c κs = cut_fits longest _ c.before.before.before.before.args.bytes.now (omega arith) (omega arith)
+hex-line-requires : tie.Need-hex_line-requires
+hex-line-requires c κs = cut_fits longest _ c.args.bytes.now (omega arith) (omega arith)
 
-returns : tie.Need-returns
+returns : tie.Need-returns-then-bytes-gt-LONGEST
 unfolding bytes_line
 returns c =
-    let bytes = c.before.before.before.before.before.args.bytes.now in
+    let bytes = c.args.bytes.now in
     let w = c.hex_line.ensures in
     (begins w.0, lendable _ _ (cut_ends longest _ bytes (omega arith) (omega arith) _ w.1))
 
-hex-line-requires-2 : tie.Need-hex-line-requires-2
+hex-line-requires-2 : tie.Need-hex_line-requires-2
 hex-line-requires-2 c κs = search rules
 
-returns-2 : tie.Need-returns-2
+returns-2 : tie.Need-returns
 unfolding bytes_line
 returns-2 c =
-    let bytes = c.before.before.before.before.args.bytes.now in
-    let w = c.hex_line2.ensures in
+    let bytes = c.args.bytes.now in
+    let w = c.hex_line-2.ensures in
     (begins (written_as (rw (take_all longest bytes (omega arith))) w.0), lendable _ _ (omega (arith, w.1)))
 
 pub bytes_line_spec : {M : Type 1} → statement M

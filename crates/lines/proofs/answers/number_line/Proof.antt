@@ -5,13 +5,10 @@ use borrow.Author.Rules.{rules}
 use Rattle.lines.proofs.answers.number_line.Statement.{statement}
 use Rattle.lines.proofs.answers.number_line.Tie as tie
 
-slice_aggregate_write_line : tie.Need-slice-aggregate-write-line
+slice_aggregate_write_line : tie.Need-slice_bounds-write_line-end-3
 slice_aggregate_write_line c = search rules
 
-slice_aggregate_write_line_2 : tie.Need-slice-aggregate-write-line-2
-slice_aggregate_write_line_2 c = search rules
-
-write-line-requires : tie.Need-write-line-requires
+write-line-requires : tie.Need-write_line-requires
 write-line-requires c κs = search rules
 
 returns : tie.Need-returns
@@ -20,4 +17,4 @@ returns c = let w = c.write_line.ensures in (begins w.0, lendable _ _ (omega ari
 pub number_line_spec : {M : Type 1} → statement M
 number_line_spec =
     tie.close
-    (tie.spec slice_aggregate_write_line slice_aggregate_write_line_2 write-line-requires returns)
+    (tie.spec slice_aggregate_write_line write-line-requires returns)

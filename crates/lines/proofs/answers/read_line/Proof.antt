@@ -8,39 +8,36 @@ use borrow.Author.Rules.{rules}
 use Rattle.lines.proofs.answers.read_line.Statement.{statement}
 use Rattle.lines.proofs.answers.read_line.Tie as tie
 
-enum_known_answer : tie.Need-enum-known-answer
+enum_known_answer : tie.Need-enum_known-answer
 enum_known_answer c = search rules
 
 number-requires : tie.Need-number-requires
 number-requires c κs = search rules
 
-refused-line-requires : tie.Need-refused-line-requires
+refused-line-requires : tie.Need-refused_line-requires
 refused-line-requires c κs = search rules
 
-enum_known_answer_2 : tie.Need-enum-known-answer-2
+enum_known_answer_2 : tie.Need-enum_known-answer-in-Corrected-1
 enum_known_answer_2 c = search rules
 
-values-requires : tie.Need-values-requires
+values-requires : tie.Need-values-numbers-requires
 values-requires c κs = search rules
 
-slice_aggregate_write_line : tie.Need-slice-aggregate-write-line
+slice_aggregate_write_line : tie.Need-slice_bounds-write_line-end-in-Corrected-2
 slice_aggregate_write_line c = search rules
 
-slice_aggregate_write_line_2 : tie.Need-slice-aggregate-write-line-2
-slice_aggregate_write_line_2 c = search rules
-
-write-line-requires : tie.Need-write-line-requires
+write-line-requires : tie.Need-write_line-requires
 write-line-requires c κs = search rules
 
-returns : tie.Need-returns
+returns : tie.Need-returns-in-Refused
 returns c =
-    let w = written_as (ap refused_line c.before.number.ensures) c.refused_line.ensures.0 in
-    rw c.before.before.before.before.answer.given.1 (begins w, lendable _ _ (omega arith))
+    let w = written_as (ap refused_line c.number.ensures) c.refused_line.ensures.0 in
+    rw c.in-Refused.is (begins w, lendable _ _ (omega arith))
 
-returns-2 : tie.Need-returns-2
+returns-2 : tie.Need-returns-in-Corrected
 returns-2 c =
-    let w = written_as (ap (line (text "ok")) c.before.before.before.before.values.ensures) c.write_line.ensures.0 in
-    rw c.before.before.before.before.before.before.answer2.given.1 (begins w, lendable _ _ (omega arith))
+    let w = written_as (ap (line (text "ok")) c.values-numbers.ensures) c.write_line.ensures.0 in
+    rw c.in-Corrected.is (begins w, lendable _ _ (omega arith))
 
 pub read_line_spec : {M : Type 1} → statement M
 read_line_spec =
@@ -52,7 +49,6 @@ read_line_spec =
     enum_known_answer_2
     values-requires
     slice_aggregate_write_line
-    slice_aggregate_write_line_2
     write-line-requires
     returns
     returns-2)

@@ -9,62 +9,48 @@ use borrow.Author.Rules.{rules}
 use Rattle.lines.proofs.answers.surveyed_line.Statement.{statement}
 use Rattle.lines.proofs.answers.surveyed_line.Tie as tie
 
--- where the values are known: as many as are counted, and few
-few : (c : tie.After-values) → (c.values.result.count ≡ length (take c.values.result.count c.values.result.values))
-    × (c.values.result.count ≤ 10)
-few c = given_few c.before.before.args.survey c.values.result c.values.ensures
-
-values-requires : tie.Need-values-requires
+values-requires : tie.Need-values-v-requires
 values-requires c κs = search rules
 
-array_share_prefix_values : tie.Need-array-share-prefix-values
-array_share_prefix_values c = given_fit c.before.before.before.args.survey c.before.values.result c.before.values.ensures
+array_share_prefix_values : tie.Need-slice_bounds-values-end
+array_share_prefix_values c = given_fit c.args.survey c.values-v.result c.values-v.ensures
 
-slice_aggregate_numbers : tie.Need-slice-aggregate-numbers
-slice_aggregate_numbers c = (few c.before.before).0
+slice_aggregate_numbers : tie.Need-slice_bounds-numbers-end
+slice_aggregate_numbers c = (given_few c.args.survey c.values-v.result c.values-v.ensures).0
 
-enum_told : tie.Need-enum-told
+enum_told : tie.Need-enum_told-1
 enum_told c = search rules
 
-slice_aggregate_write_noted : tie.Need-slice-aggregate-write-noted
-slice_aggregate_write_noted c = search rules
+write-noted-requires : tie.Need-write_noted-requires
+write-noted-requires c κs = omega (arith, given_few c.args.survey c.values-v.result c.values-v.ensures)
 
-slice_aggregate_write_noted_2 : tie.Need-slice-aggregate-write-noted-2
-slice_aggregate_write_noted_2 c = search rules
-
-write-noted-requires : tie.Need-write-noted-requires
-write-noted-requires c κs = omega (arith, few c.before.before.before.before.before.before.before)
-
-enum_told_2 : tie.Need-enum-told-2
+enum_told_2 : tie.Need-enum_told-in-Present
 enum_told_2 c = search rules
 
-slice_aggregate_write_line : tie.Need-slice-aggregate-write-line
-slice_aggregate_write_line c = search rules
+write-line-requires : tie.Need-write_line-requires
+write-line-requires c κs = omega (arith, given_few c.args.survey c.values-v.result c.values-v.ensures)
 
-write-line-requires : tie.Need-write-line-requires
-write-line-requires c κs = omega (arith, few c.before.before.before.before.before.before)
-
-same_length : tie.Need-same-length
+same_length : tie.Need-shape_of-out-in-Absent
 same_length c = search rules
 
-returns : tie.Need-returns
+returns : tie.Need-returns-in-Absent
 returns c =
     let told = c.before.before.before.before.before.before in
-    let v = told.before.before.before.before in
-    let absent = line_absent v.before.before.args.survey v.values.result v.values.ensures told.enum_told.given.1 in
-    let w = c.before.before.write_noted.ensures in
-    (written_as absent w.0, omega (arith, w.1, few v))
+    let v = told.before.before.before in
+    let absent = line_absent v.args.survey v.values-v.result v.values-v.ensures told.in-Absent.is in
+    let w = c.write_noted.ensures in
+    (written_as absent w.0, omega (arith, w.1, given_few c.args.survey c.values-v.result c.values-v.ensures))
 
-same_length_2 : tie.Need-same-length-2
+same_length_2 : tie.Need-shape_of-out-in-Present
 same_length_2 c = search rules
 
-returns-2 : tie.Need-returns-2
+returns-2 : tie.Need-returns-in-Present
 returns-2 c =
     let told = c.before.before.before.before.before in
-    let v = told.before.before.before.before in
-    let present = line_present v.before.before.args.survey v.values.result v.values.ensures _ _ _ told.enum_told2.given.1 in
-    let w = c.before.before.write_line.ensures in
-    (written_as present w.0, omega (arith, w.1, few v))
+    let v = told.before.before.before in
+    let present = line_present v.args.survey v.values-v.result v.values-v.ensures _ _ _ told.in-Present.is in
+    let w = c.write_line.ensures in
+    (written_as present w.0, omega (arith, w.1, given_few c.args.survey c.values-v.result c.values-v.ensures))
 
 pub surveyed_line_spec : {M : Type 1} → statement M
 surveyed_line_spec =
@@ -74,11 +60,8 @@ surveyed_line_spec =
     array_share_prefix_values
     slice_aggregate_numbers
     enum_told
-    slice_aggregate_write_noted
-    slice_aggregate_write_noted_2
     write-noted-requires
     enum_told_2
-    slice_aggregate_write_line
     write-line-requires
     same_length
     returns

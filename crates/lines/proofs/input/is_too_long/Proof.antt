@@ -7,7 +7,7 @@ use Rattle.lines.proofs.input.is_too_long.Tie as tie
 
 returns : tie.Need-returns
 returns c =
-    let a = c.before.args in
+    let a = c.args in
     let room : InputBuffer a.input.now = omega arith in
     (room, fills_too_long a.input.now room a.size)
 

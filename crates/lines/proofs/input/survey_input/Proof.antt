@@ -5,27 +5,27 @@ use borrow.Author.Rules.{rules}
 use Rattle.lines.proofs.input.survey_input.Statement.{statement}
 use Rattle.lines.proofs.input.survey_input.Tie as tie
 
-is-too-long-requires : tie.Need-is-too-long-requires
+is-too-long-requires : tie.Need-is_too_long-requires
 is-too-long-requires c κs = search rules
 
-returns : tie.Need-returns
+returns : tie.Need-returns-then-is_too_long
 returns c =
-    let test = c.before.is_too_long.ensures in
-    (test.0, survey_long _ (sym test.1 ∙ c.if1.true))
+    let test = c.is_too_long.ensures in
+    (test.0, survey_long _ (sym test.1 ∙ c.if-is_too_long.true))
 
-slice_aggregate_survey : tie.Need-slice-aggregate-survey
+slice_aggregate_survey : tie.Need-slice_bounds-survey-end
 slice_aggregate_survey c =
-    let a = c.before.before.before.before.args in
-    let test = c.before.before.before.is_too_long.ensures in
-    read_whole a.input.now test.0 a.size (sym test.1 ∙ c.before.before.if1.false)
+    let a = c.args in
+    let test = c.is_too_long.ensures in
+    read_whole a.input.now test.0 a.size (sym test.1 ∙ c.if-is_too_long.false)
 
 survey-requires : tie.Need-survey-requires
 survey-requires c κs = search rules
 
-returns-2 : tie.Need-returns-2
+returns-2 : tie.Need-returns
 returns-2 c =
-    let test = c.before.before.before.before.is_too_long.ensures in
-    (test.0, c.survey.ensures ∙ survey_short _ (sym test.1 ∙ c.before.before.before.if1.false))
+    let test = c.is_too_long.ensures in
+    (test.0, c.survey.ensures ∙ survey_short _ (sym test.1 ∙ c.if-is_too_long.false))
 
 pub survey_input_spec : {M : Type 1} → statement M
 survey_input_spec =

@@ -14,59 +14,52 @@ use borrow.Author.Rules.{rules}
 use Rattle.lines.proofs.listing.list.Statement.{statement}
 use Rattle.lines.proofs.listing.list.Tie as tie
 
-abbrev file : tie.Start → List ℕ
-file c = read_into c.args.input.now c.args.size
-
 -- where the survey is known: that it is accepted, and its few slots
-surveyed : (c : tie.After-s) → survey_file (file c.before.before.before) ≡ accepted c.s.given.0.0
-surveyed c = let v = c.before.before.survey_input in survey_known _ v.result _ v.ensures.1 c.s.given.1
+surveyed : (c : tie.In-Surveyed) → survey_file (read_into c.args.input.now c.args.size) ≡ accepted c.in-Surveyed.s
+surveyed c = let v = c.survey_input in survey_known _ v.result _ v.ensures.1 c.in-Surveyed.is
 
-few : (c : tie.After-s) → c.s.given.0.0.slots ≤ 4000
-few c = slots_few _ c.s.given.0.0 (survey_accepted _ _ (surveyed c)).1
+few : (c : tie.In-Surveyed) → c.in-Surveyed.s.slots ≤ 4000
+few c = slots_few _ c.in-Surveyed.s (survey_accepted _ _ (surveyed c)).1
 
-survey-input-requires : tie.Need-survey-input-requires
+survey-input-requires : tie.Need-survey_input-requires
 survey-input-requires c κs = search rules
 
-enum_known_r : tie.Need-enum-known-r
+enum_known_r : tie.Need-enum_known-r
 enum_known_r c = search rules
 
 number-requires : tie.Need-number-requires
 number-requires c κs = search rules
 
-refused-line-requires : tie.Need-refused-line-requires
+refused-line-requires : tie.Need-refused_line-requires
 refused-line-requires c κs = search rules
 
-enum_known_s : tie.Need-enum-known-s
+enum_known_s : tie.Need-enum_known-s
 enum_known_s c = search rules
 
-slice_aggregate_slot_lines : tie.Need-slice-aggregate-slot-lines
+slice_aggregate_slot_lines : tie.Need-slice_bounds-slot_lines-end
 slice_aggregate_slot_lines c =
-    let known = c.before.before.before.before in
-    let v = known.before.before in
-    let a = v.before.args in
-    read_whole a.input.now v.survey_input.ensures.0 a.size (survey_accepted _ _ (surveyed known)).0
+    read_whole c.args.input.now c.survey_input.ensures.0 c.args.size (survey_accepted _ _ (surveyed c.before.before)).0
 
-slot-lines-requires : tie.Need-slot-lines-requires
-slot-lines-requires c κs = omega (arith, few c.before.before.before.before.before)
+slot-lines-requires : tie.Need-slot_lines-end-requires
+slot-lines-requires c κs = omega (arith, few c.before.before.before)
 
-total-line-requires : tie.Need-total-line-requires
-total-line-requires c κs = omega (arith, c.before.slot_lines.ensures.1, few c.before.before.before.before.before.before.before)
+total-line-requires : tie.Need-total_line-requires
+total-line-requires c κs = omega (arith, c.slot_lines-end.ensures.1, few c.before.before.before.before.before)
 
-returns : tie.Need-returns
+returns : tie.Need-returns-in-Refused
 returns c =
-    let known = c.before.before.before.before in
-    let v = known.before.before.survey_input in
-    let e = survey_known (file known.before.before.before) v.result _ v.ensures.1 known.r.given.1 in
-    let w = written_as (ap refused_line c.before.number.ensures ∙ listing_refused _ _ e) c.refused_line.ensures.0 in
+    let v = c.survey_input in
+    let e = survey_known (read_into c.args.input.now c.args.size) v.result _ v.ensures.1 c.in-Refused.is in
+    let w = written_as (ap refused_line c.number.ensures ∙ listing_refused _ _ e) c.refused_line.ensures.0 in
     ((v.ensures.0, begins w), lendable _ _ (omega arith))
 
-returns-2 : tie.Need-returns-2
+returns-2 : tie.Need-returns-in-Surveyed
 returns-2 c =
-    let known = c.before.before.before.before.before.before.before.before in
-    let lines = c.before.before.slot_lines.ensures in
+    let known = c.before.before.before.before.before.before in
+    let lines = c.slot_lines-end.ensures in
     let total = c.total_line.ensures in
     let w = written_as (listing_accepted _ _ (surveyed known)) (written_then lines.0 total.0) in
-    ((known.before.before.survey_input.ensures.0, begins w), lendable _ _ (omega (arith, total.1, lines.1, few known)))
+    ((known.survey_input.ensures.0, begins w), lendable _ _ (omega (arith, total.1, lines.1, few known)))
 
 pub list_spec : {M : Type 1} → statement M
 list_spec =

@@ -8,34 +8,28 @@ use borrow.Author.Rules.{rules}
 use Rattle.lines.proofs.reports.count_lines.Statement.{statement}
 use Rattle.lines.proofs.reports.count_lines.Tie as tie
 
-slice_aggregate_report_line : tie.Need-slice-aggregate-report-line
-slice_aggregate_report_line c = search rules
-
-slice_aggregate_report_line_2 : tie.Need-slice-aggregate-report-line-2
-slice_aggregate_report_line_2 c = search rules
-
-report-line-requires : tie.Need-report-line-requires
+report-line-requires : tie.Need-report_line-all-requires
 report-line-requires c κs = search rules
 
-status-line-requires : tie.Need-status-line-requires
+status-line-requires : tie.Need-status_line-read-requires
 status-line-requires c κs = search rules
 
-status-line-requires-2 : tie.Need-status-line-requires-2
+status-line-requires-2 : tie.Need-status_line-over-requires
 status-line-requires-2 c κs = search rules
 
-status-line-requires-3 : tie.Need-status-line-requires-3
+status-line-requires-3 : tie.Need-status_line-under-requires
 status-line-requires-3 c κs = search rules
 
-status-line-requires-4 : tie.Need-status-line-requires-4
+status-line-requires-4 : tie.Need-status_line-lost-requires
 status-line-requires-4 c κs = search rules
 
-status-line-requires-5 : tie.Need-status-line-requires-5
+status-line-requires-5 : tie.Need-status_line-bad-requires
 status-line-requires-5 c κs = search rules
 
-status-line-requires-6 : tie.Need-status-line-requires-6
+status-line-requires-6 : tie.Need-status_line-requires
 status-line-requires-6 c κs = search rules
 
-same_length : tie.Need-same-length
+same_length : tie.Need-shape_of-out
 same_length c = search rules
 
 returns : tie.Need-returns
@@ -47,17 +41,15 @@ returns c =
     let over = under.before.before.before.before in
     let read = over.before.before.before.before in
     let slots = read.before.before.before.before in
-    let last = written_then lost.status_line4.ensures.0 (written_then bad.status_line5.ensures.0 blank.status_line6.ensures.0) in
-    let later = written_then over.status_line2.ensures.0 (written_then under.status_line3.ensures.0 last) in
-    let first = report_line (text "slots") slots.before.before.before.before.before.args.slots [] in
-    (written_then {s = first} slots.report_line.ensures.0 (written_then read.status_line.ensures.0 later), omega arith)
+    let last = written_then lost.status_line-lost.ensures.0 (written_then bad.status_line-bad.ensures.0 blank.status_line.ensures.0) in
+    let later = written_then over.status_line-over.ensures.0 (written_then under.status_line-under.ensures.0 last) in
+    let first = report_line (text "slots") slots.args.slots [] in
+    (written_then {s = first} slots.report_line-all.ensures.0 (written_then read.status_line-read.ensures.0 later), omega arith)
 
 pub count_lines_spec : {M : Type 1} → statement M
 count_lines_spec =
     tie.close
     (tie.spec
-    slice_aggregate_report_line
-    slice_aggregate_report_line_2
     report-line-requires
     status-line-requires
     status-line-requires-2

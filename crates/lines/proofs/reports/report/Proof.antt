@@ -13,44 +13,39 @@ use borrow.Author.Rules.{rules}
 use Rattle.lines.proofs.reports.report.Statement.{statement}
 use Rattle.lines.proofs.reports.report.Tie as tie
 
-abbrev file : tie.Start → List ℕ
-file c = read_into c.args.input.now c.args.size
-
-survey-input-requires : tie.Need-survey-input-requires
+survey-input-requires : tie.Need-survey_input-requires
 survey-input-requires c κs = search rules
 
-enum_known_r : tie.Need-enum-known-r
+enum_known_r : tie.Need-enum_known-r
 enum_known_r c = search rules
 
 number-requires : tie.Need-number-requires
 number-requires c κs = search rules
 
-refusal-line-requires : tie.Need-refusal-line-requires
+refusal-line-requires : tie.Need-refusal_line-requires
 refusal-line-requires c κs = search rules
 
-enum_known_s : tie.Need-enum-known-s
+enum_known_s : tie.Need-enum_known-s
 enum_known_s c = search rules
 
-pressure-lines-requires : tie.Need-pressure-lines-requires
+pressure-lines-requires : tie.Need-pressure_lines-end-requires
 pressure-lines-requires c κs = search rules
 
-count-lines-requires : tie.Need-count-lines-requires
+count-lines-requires : tie.Need-count_lines-requires
 count-lines-requires c κs = search rules
 
-returns : tie.Need-returns
+returns : tie.Need-returns-in-Refused
 returns c =
-    let known = c.before.before.before.before in
-    let v = known.before.before.survey_input in
-    let e = survey_known (file known.before.before.before) v.result _ v.ensures.1 known.r.given.1 in
-    let text = ap (λ n. reported (refused n)) c.before.number.ensures ∙ report_refused _ _ e in
+    let v = c.survey_input in
+    let e = survey_known (read_into c.args.input.now c.args.size) v.result _ v.ensures.1 c.in-Refused.is in
+    let text = ap (λ n. reported (refused n)) c.number.ensures ∙ report_refused _ _ e in
     ((v.ensures.0, begins (written_as text c.refusal_line.ensures.0)), lendable _ _ (omega arith))
 
-returns-2 : tie.Need-returns-2
+returns-2 : tie.Need-returns-in-Surveyed
 returns-2 c =
-    let known = c.before.before.before.before.before.before in
-    let v = known.before.before.survey_input in
-    let e = survey_known (file known.before.before.before) v.result _ v.ensures.1 known.s.given.1 in
-    let pressures = c.before.before.pressure_lines.ensures in
+    let v = c.survey_input in
+    let e = survey_known (read_into c.args.input.now c.args.size) v.result _ v.ensures.1 c.in-Surveyed.is in
+    let pressures = c.pressure_lines-end.ensures in
     let counts = c.count_lines.ensures in
     let w = written_as (report_accepted _ _ e) (written_then pressures.0 counts.0) in
     ((v.ensures.0, begins w), lendable _ _ (omega (arith, counts.1, pressures.1)))

@@ -7,33 +7,33 @@ use borrow.Author.Rules.{rules}
 use Rattle.lines.proofs.text.write_hex.Statement.{statement}
 use Rattle.lines.proofs.text.write_hex.Tie as tie
 
-hex-digit-requires : tie.Need-hex-digit-requires
+hex-digit-requires : tie.Need-hex_digit-requires
 hex-digit-requires c κs = search rules
 
-slice_write_out : tie.Need-slice-write-out
+slice_write_out : tie.Need-bounds-out-at
 slice_write_out c = search rules
 
-add_next : tie.Need-overflow-add-next
+add_next : tie.Need-overflow_add-next
 add_next c = search rules
 
-hex-digit-requires-2 : tie.Need-hex-digit-requires-2
+hex-digit-requires-2 : tie.Need-hex_digit-requires-2
 hex-digit-requires-2 c κs = search rules
 
-slice_write_out_2 : tie.Need-slice-write-out-2
+slice_write_out_2 : tie.Need-bounds-out-next
 slice_write_out_2 c = simp length-set (omega arith)
 
-add_result : tie.Need-overflow-add-result
+add_result : tie.Need-overflow_add-result
 add_result c = search rules
 
-same_length : tie.Need-same-length
+same_length : tie.Need-shape_of-out
 same_length c = search rules
 
 returns : tie.Need-returns
 unfolding hex
 returns c =
-    let a = c.before.before.before.args in
-    let high = written_byte c.before.hex_digit.result (written_none a.out.now a.at) (omega arith) in (
-      written_as (rw (c.before.hex_digit.ensures, c.hex_digit2.ensures)) (written_byte c.hex_digit2.result high (slice_write_out_2 c)),
+    let a = c.args in
+    let high = written_byte c.hex_digit.result (written_none a.out.now a.at) (omega arith) in (
+      written_as (rw (c.hex_digit.ensures, c.hex_digit-2.ensures)) (written_byte c.hex_digit-2.result high (slice_write_out_2 c)),
       omega arith,
     )
 

@@ -9,47 +9,47 @@ use Rattle.lines.proofs.Texts.{written_none, written_more, written_each}
 use Rattle.lines.proofs.text.write_hexes.Statement.{statement}
 use Rattle.lines.proofs.text.write_hexes.Tie as tie
 
-abbrev invariant-loop : tie.invariant-loop
+abbrev invariant-loop : tie.invariant-loop-i
 invariant-loop out₀ at bytes end₀ i₀ out end i =
     (i ≤ length bytes) × (end ≡ at + 2 * i) × (length out ≡ length out₀) × Written out₀ at (each hex (take i bytes)) out end
 
-abbrev decreases-loop : tie.decreases-loop
+abbrev decreases-loop : tie.decreases-loop-i
 decreases-loop out₀ at bytes end₀ i₀ out end i = length bytes - i
 
-loop-holds : tie.Need-loop-init invariant-loop decreases-loop
+loop-holds : tie.Need-loop-i-init invariant-loop decreases-loop
 unfolding each
-loop-holds c = (omega arith, omega arith, refl, written_none c.before.before.args.out.now c.before.before.args.at)
+loop-holds c = (omega arith, omega arith, refl, written_none c.args.out.now c.args.at)
 
-shared_slice_read_write_hex : tie.Need-shared-slice-read-write-hex invariant-loop decreases-loop
+shared_slice_read_write_hex : tie.Need-bounds-bytes-i invariant-loop decreases-loop
 shared_slice_read_write_hex c = omega arith
 
-write-hex-requires : tie.Need-write-hex-requires invariant-loop decreases-loop
+write-hex-requires : tie.Need-write_hex-end-requires invariant-loop decreases-loop
 write-hex-requires c κs = omega arith
 
-add_i : tie.Need-overflow-add-i invariant-loop decreases-loop
+add_i : tie.Need-overflow_add-i invariant-loop decreases-loop
 add_i c = omega arith
 
-loop-less : tie.Need-loop-smaller invariant-loop decreases-loop
+loop-less : tie.Need-loop-i-smaller invariant-loop decreases-loop
 loop-less c = omega arith
 
-loop-again : tie.Need-loop-preserved invariant-loop decreases-loop
+loop-again : tie.Need-loop-i-preserved invariant-loop decreases-loop
 loop-again c =
-    let l = c.before.before.before.before.before.before.loop in
-    let w = c.before.before.write_hex in
-    let bytes = c.before.before.before.before.before.before.before.before.before.args.bytes.now in (
+    let l = c.loop-i in
+    let w = c.write_hex-end in
+    let bytes = c.args.bytes.now in (
       omega arith,
       omega (arith, w.ensures.1),
-      w.auto.0 ∙ l.invariant.2,
+      w.auto.out ∙ l.invariant.2,
       written_more hex bytes l.i l.invariant.3 (omega arith) w.ensures.0,
     )
 
-same_length : tie.Need-same-length invariant-loop decreases-loop
-same_length c = c.before.loop.invariant.2
+same_length : tie.Need-shape_of-out invariant-loop decreases-loop
+same_length c = c.loop-i.invariant.2
 
 returns : tie.Need-returns invariant-loop decreases-loop
 returns c =
-    let l = c.before.loop in
-    let bytes = c.before.before.before.before.args.bytes.now in
+    let l = c.loop-i in
+    let bytes = c.args.bytes.now in
     let all : l.i ≡ length bytes = omega arith in
     (written_each hex bytes l.i l.invariant.3 all, omega arith)
 

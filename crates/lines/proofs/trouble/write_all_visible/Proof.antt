@@ -10,47 +10,47 @@ use Rattle.lines.proofs.Texts.{written_none, written_more, written_each}
 use Rattle.lines.proofs.trouble.write_all_visible.Statement.{statement}
 use Rattle.lines.proofs.trouble.write_all_visible.Tie as tie
 
-abbrev invariant-loop : tie.invariant-loop
+abbrev invariant-loop : tie.invariant-loop-i
 invariant-loop out₀ at text end₀ i₀ out end i =
     (i ≤ length text) × (end ≤ at + 4 * i) × (length out ≡ length out₀) × Written out₀ at (each visible_byte (take i text)) out end
 
-abbrev decreases-loop : tie.decreases-loop
+abbrev decreases-loop : tie.decreases-loop-i
 decreases-loop out₀ at text end₀ i₀ out end i = length text - i
 
-loop-holds : tie.Need-loop-init invariant-loop decreases-loop
+loop-holds : tie.Need-loop-i-init invariant-loop decreases-loop
 unfolding each
-loop-holds c = (omega arith, omega arith, refl, written_none c.before.before.args.out.now c.before.before.args.at)
+loop-holds c = (omega arith, omega arith, refl, written_none c.args.out.now c.args.at)
 
-shared_slice_read_write_visible : tie.Need-shared-slice-read-write-visible invariant-loop decreases-loop
+shared_slice_read_write_visible : tie.Need-bounds-text-i invariant-loop decreases-loop
 shared_slice_read_write_visible c = omega arith
 
-write-visible-requires : tie.Need-write-visible-requires invariant-loop decreases-loop
+write-visible-requires : tie.Need-write_visible-end-requires invariant-loop decreases-loop
 write-visible-requires c κs = omega arith
 
-add_i : tie.Need-overflow-add-i invariant-loop decreases-loop
+add_i : tie.Need-overflow_add-i invariant-loop decreases-loop
 add_i c = omega arith
 
-loop-less : tie.Need-loop-smaller invariant-loop decreases-loop
+loop-less : tie.Need-loop-i-smaller invariant-loop decreases-loop
 loop-less c = omega arith
 
-loop-again : tie.Need-loop-preserved invariant-loop decreases-loop
+loop-again : tie.Need-loop-i-preserved invariant-loop decreases-loop
 loop-again c =
-    let l = c.before.before.before.before.before.before.loop in
-    let w = c.before.before.write_visible in
-    let text = c.before.before.before.before.before.before.before.before.before.args.text.now in (
+    let l = c.loop-i in
+    let w = c.write_visible-end in
+    let text = c.args.text.now in (
       omega arith,
       omega (arith, w.ensures.1),
-      w.auto.0 ∙ l.invariant.2,
+      w.auto.out ∙ l.invariant.2,
       written_more visible_byte text l.i l.invariant.3 (omega arith) w.ensures.0,
     )
 
-same_length : tie.Need-same-length invariant-loop decreases-loop
-same_length c = c.before.loop.invariant.2
+same_length : tie.Need-shape_of-out invariant-loop decreases-loop
+same_length c = c.loop-i.invariant.2
 
 returns : tie.Need-returns invariant-loop decreases-loop
 returns c =
-    let l = c.before.loop in
-    let text = c.before.before.before.before.args.text.now in
+    let l = c.loop-i in
+    let text = c.args.text.now in
     let all : l.i ≡ length text = omega arith in
     (written_each visible_byte text l.i l.invariant.3 all, omega arith)
 

@@ -18,46 +18,46 @@ flagged : (slots sum : ℕ) (c : Counts) (p : Pressures)
 flagged slots sum c Pressures.Absent = refl
 flagged slots sum c (Pressures.Present smallest largest mean) = refl
 
-values-requires : tie.Need-values-requires
+values-requires : tie.Need-values-v-requires
 values-requires c κs = search rules
 
-present-requires : tie.Need-present-requires
+present-requires : tie.Need-present-flag-requires
 present-requires c κs = search rules
 
-array_read_t8 : tie.Need-array-read-t8
+array_read_t8 : tie.Need-bounds-x-0
 array_read_t8 c = search rules
 
-array_read_t11 : tie.Need-array-read-t11
+array_read_t11 : tie.Need-bounds-x-1
 array_read_t11 c = search rules
 
-array_read_t14 : tie.Need-array-read-t14
+array_read_t14 : tie.Need-bounds-x-2
 array_read_t14 c = search rules
 
-array_read_t17 : tie.Need-array-read-t17
+array_read_t17 : tie.Need-bounds-x-3
 array_read_t17 c = search rules
 
-array_read_t20 : tie.Need-array-read-t20
+array_read_t20 : tie.Need-bounds-x-4
 array_read_t20 c = search rules
 
-array_read_t23 : tie.Need-array-read-t23
+array_read_t23 : tie.Need-bounds-x-5
 array_read_t23 c = search rules
 
-array_read_t26 : tie.Need-array-read-t26
+array_read_t26 : tie.Need-bounds-x-6
 array_read_t26 c = search rules
 
-array_read_t29 : tie.Need-array-read-t29
+array_read_t29 : tie.Need-bounds-x-7
 array_read_t29 c = search rules
 
-array_read_t32 : tie.Need-array-read-t32
+array_read_t32 : tie.Need-bounds-x-8
 array_read_t32 c = search rules
 
-array_read_t35 : tie.Need-array-read-t35
+array_read_t35 : tie.Need-bounds-x-9
 array_read_t35 c = search rules
 
 returns : tie.Need-returns
 returns c =
-    let s = c.before.before.before.args.s in
-    rw (c.present.ensures, c.before.before.values.ensures) (flagged s.slots s.sum s.counts s.pressures)
+    let s = c.args.s in
+    rw (c.present-flag.ensures, c.values-v.ensures) (flagged s.slots s.sum s.counts s.pressures)
 
 pub flagged_spec : {M : Type 1} → statement M
 flagged_spec =

@@ -9,11 +9,11 @@ clear-requires c κs = search rules
 number-requires : tie.Need-number-requires
 number-requires c κs = search rules
 
-same_length : tie.Need-same-length
+same_length : tie.Need-shape_of-buf
 same_length c = search rules
 
 returns : tie.Need-returns
-returns c = rw (c.number.ensures, ← c.before.before.before.clear.ensures)
+returns c = rw (c.number.ensures, ← c.clear.ensures)
 
 pub mizbulett_clear_spec : {M : Type 1} → statement M
 mizbulett_clear_spec = tie.close (tie.spec clear-requires number-requires same_length returns)

@@ -7,35 +7,35 @@ use Rattle.mizbulett.proofs.trace_calls.mizbulett_load.Tie as tie
 load-requires : tie.Need-load-requires
 load-requires c κs = search rules
 
-enum_known_r : tie.Need-enum-known-r
+enum_known_r : tie.Need-enum_known-r
 enum_known_r c = search rules
 
 number-requires : tie.Need-number-requires
 number-requires c κs = search rules
 
-enum_known_number : tie.Need-enum-known-number
+enum_known_number : tie.Need-enum_known-number
 enum_known_number c = search rules
 
-cast_t12 : tie.Need-overflow-cast-t12
+cast_t12 : tie.Need-overflow_cast-out
 cast_t12 c = search rules
 
-same_length : tie.Need-same-length
+same_length : tie.Need-shape_of-buf-in-Refused
 same_length c = search rules
 
-returns : tie.Need-returns
+returns : tie.Need-returns-in-Refused
 returns c =
-    let told = c.before.before in
-    let loaded = told.before.before.before.before.load.ensures in
-    (rw (c.number.ensures, ← loaded, told.r.given.1), rw (c.number.ensures, ← loaded, told.r.given.1))
+    let told = c.before in
+    let loaded = told.load.ensures in
+    (rw (c.number.ensures, ← loaded, told.in-Refused.is), rw (c.number.ensures, ← loaded, told.in-Refused.is))
 
-same_length_2 : tie.Need-same-length-2
+same_length_2 : tie.Need-shape_of-buf-in-Loaded
 same_length_2 c = search rules
 
-returns-2 : tie.Need-returns-2
+returns-2 : tie.Need-returns-in-Loaded
 returns-2 c =
-    let told = c.before.before in
-    let loaded = told.before.before.before.before.load.ensures in
-    (rw (← loaded, told.number2.given.1), rw (← loaded, told.number2.given.1))
+    let told = c.before in
+    let loaded = told.load.ensures in
+    (rw (← loaded, told.in-Loaded.is), rw (← loaded, told.in-Loaded.is))
 
 pub mizbulett_load_spec : {M : Type 1} → statement M
 mizbulett_load_spec =

@@ -9,11 +9,11 @@ mark-requires c κs = search rules
 number-requires : tie.Need-number-requires
 number-requires c κs = search rules
 
-same_length : tie.Need-same-length
+same_length : tie.Need-shape_of-buf
 same_length c = search rules
 
 returns : tie.Need-returns
-returns c = rw (c.number.ensures, ← c.before.before.before.mark.ensures)
+returns c = rw (c.number.ensures, ← c.mark.ensures)
 
 pub mizbulett_mark_spec : {M : Type 1} → statement M
 mizbulett_mark_spec = tie.close (tie.spec mark-requires number-requires same_length returns)

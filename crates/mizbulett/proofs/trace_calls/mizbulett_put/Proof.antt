@@ -9,11 +9,11 @@ put-requires c κs = search rules
 number-requires : tie.Need-number-requires
 number-requires c κs = search rules
 
-same_length : tie.Need-same-length
+same_length : tie.Need-shape_of-buf
 same_length c = search rules
 
 returns : tie.Need-returns
-returns c = rw (c.number.ensures, ← c.before.before.before.put.ensures)
+returns c = rw (c.number.ensures, ← c.put.ensures)
 
 pub mizbulett_put_spec : {M : Type 1} → statement M
 mizbulett_put_spec = tie.close (tie.spec put-requires number-requires same_length returns)

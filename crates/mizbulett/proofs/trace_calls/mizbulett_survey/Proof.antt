@@ -6,23 +6,23 @@ use Rattle.mizbulett.proofs.trace_calls.mizbulett_survey.Tie as tie
 survey-requires : tie.Need-survey-requires
 survey-requires c κs = search rules
 
-enum_known_r : tie.Need-enum-known-r
+enum_known_r : tie.Need-enum_known-r
 enum_known_r c = search rules
 
 number-requires : tie.Need-number-requires
 number-requires c κs = search rules
 
-enum_known_s : tie.Need-enum-known-s
+enum_known_s : tie.Need-enum_known-s
 enum_known_s c = search rules
 
 flagged-requires : tie.Need-flagged-requires
 flagged-requires c κs = search rules
 
-returns : tie.Need-returns
-returns c = rw (c.number.ensures, ← c.before.before.before.before.survey.ensures, c.before.before.r.given.1)
+returns : tie.Need-returns-in-Refused
+returns c = rw (c.number.ensures, ← c.survey.ensures, c.in-Refused.is)
 
-returns-2 : tie.Need-returns-2
-returns-2 c = rw (c.flagged.ensures, ← c.before.before.before.before.survey.ensures, c.before.before.s.given.1)
+returns-2 : tie.Need-returns-in-Surveyed
+returns-2 c = rw (c.flagged.ensures, ← c.survey.ensures, c.in-Surveyed.is)
 
 pub mizbulett_survey_spec : {M : Type 1} → statement M
 mizbulett_survey_spec =

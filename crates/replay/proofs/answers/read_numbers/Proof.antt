@@ -5,35 +5,35 @@ use borrow.Author.Rules.{rules}
 use Rattle.replay.proofs.answers.read_numbers.Statement.{statement}
 use Rattle.replay.proofs.answers.read_numbers.Tie as tie
 
-enum_known_answer : tie.Need-enum-known-answer
+enum_known_answer : tie.Need-enum_known-answer
 enum_known_answer c = search rules
 
-values-requires : tie.Need-values-requires
+values-requires : tie.Need-values-x-requires
 values-requires c κs = search rules
 
-array_read_t9 : tie.Need-array-read-t9
+array_read_t9 : tie.Need-bounds-x-0
 array_read_t9 c = search rules
 
-array_read_t12 : tie.Need-array-read-t12
+array_read_t12 : tie.Need-bounds-x-1
 array_read_t12 c = search rules
 
-array_read_t15 : tie.Need-array-read-t15
+array_read_t15 : tie.Need-bounds-x-2
 array_read_t15 c = search rules
 
-array_read_t18 : tie.Need-array-read-t18
+array_read_t18 : tie.Need-bounds-x-3
 array_read_t18 c = search rules
 
-enum_known_answer_2 : tie.Need-enum-known-answer-2
+enum_known_answer_2 : tie.Need-enum_known-answer-in-Refused-1
 enum_known_answer_2 c = search rules
 
-refused-numbers-requires : tie.Need-refused-numbers-requires
+refused-numbers-requires : tie.Need-refused_numbers-requires
 refused-numbers-requires c κs = search rules
 
-returns : tie.Need-returns
-returns c = record { numbers = rw (c.before.before.answer.given.1, c.values.ensures); count = omega arith; values = refl }
+returns : tie.Need-returns-in-Corrected
+returns c = record { numbers = rw (c.in-Corrected.is, c.values-x.ensures); count = omega arith; values = refl }
 
-returns-2 : tie.Need-returns-2
-returns-2 c = rw c.before.before.answer2.given.1 c.refused_numbers.ensures.0
+returns-2 : tie.Need-returns-in-Refused
+returns-2 c = rw c.in-Refused.is c.refused_numbers.ensures.0
 
 pub read_numbers_spec : {M : Type 1} → statement M
 read_numbers_spec =

@@ -3,23 +3,23 @@ use borrow.Author.Rules.{rules}
 use Rattle.replay.proofs.answers.survey_numbers.Statement.{statement}
 use Rattle.replay.proofs.answers.survey_numbers.Tie as tie
 
-enum_known_answer : tie.Need-enum-known-answer
+enum_known_answer : tie.Need-enum_known-answer
 enum_known_answer c = search rules
 
-surveyed-numbers-requires : tie.Need-surveyed-numbers-requires
+surveyed-numbers-requires : tie.Need-surveyed_numbers-requires
 surveyed-numbers-requires c κs = search rules
 
-enum_known_answer_2 : tie.Need-enum-known-answer-2
+enum_known_answer_2 : tie.Need-enum_known-answer-in-Refused-1
 enum_known_answer_2 c = search rules
 
-refused-numbers-requires : tie.Need-refused-numbers-requires
+refused-numbers-requires : tie.Need-refused_numbers-requires
 refused-numbers-requires c κs = search rules
 
-returns : tie.Need-returns
-returns c = rw c.before.before.answer.given.1 c.surveyed_numbers.ensures
+returns : tie.Need-returns-in-Surveyed
+returns c = rw c.in-Surveyed.is c.surveyed_numbers.ensures
 
-returns-2 : tie.Need-returns-2
-returns-2 c = rw c.before.before.answer2.given.1 c.refused_numbers.ensures.0
+returns-2 : tie.Need-returns-in-Refused
+returns-2 c = rw c.in-Refused.is c.refused_numbers.ensures.0
 
 pub survey_numbers_spec : {M : Type 1} → statement M
 survey_numbers_spec =

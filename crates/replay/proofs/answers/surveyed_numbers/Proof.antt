@@ -14,13 +14,13 @@ in_three : (p : Pressures) → (take (length (pressures_values p)) (pressures_in
 in_three Pressures.Absent = (refl, omega arith, refl)
 in_three (Pressures.Present smallest largest mean) = (refl, omega arith, refl)
 
-values-requires : tie.Need-values-requires
+values-requires : tie.Need-values-v-requires
 values-requires c κs = search rules
 
 returns : tie.Need-returns
 returns c =
-    let three = in_three c.before.before.args.s.pressures in
-    rw c.before.values.ensures (record { numbers = rw three.0; count = omega (arith, three.1); values = rw three.2 })
+    let three = in_three c.args.s.pressures in
+    rw c.values-v.ensures (record { numbers = rw three.0; count = omega (arith, three.1); values = rw three.2 })
 
 pub surveyed_numbers_spec : {M : Type 1} → statement M
 surveyed_numbers_spec = tie.close (tie.spec values-requires returns)

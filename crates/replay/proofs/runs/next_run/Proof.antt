@@ -3,16 +3,16 @@ use borrow.Author.Rules.{rules}
 use Rattle.replay.proofs.runs.next_run.Statement.{statement}
 use Rattle.replay.proofs.runs.next_run.Tie as tie
 
-enum_known_written : tie.Need-enum-known-written
+enum_known_written : tie.Need-enum_known-written
 enum_known_written c = search rules
 
-enum_told : tie.Need-enum-told
+enum_told : tie.Need-enum_told-1
 enum_told c = search rules
 
-returns : tie.Need-returns
-returns c = rw c.before.written.given.1
+returns : tie.Need-returns-in-Numbers
+returns c = rw c.in-Numbers.is
 
-returns-2 : tie.Need-returns-2
+returns-2 : tie.Need-returns-in-NoRoom
 returns-2 c = search rules
 
 pub next_run_spec : {M : Type 1} → statement M

@@ -12,131 +12,118 @@ use Rattle.replay.proofs.Progress.{Progress, progress_start, progress_ran, left_
 use Rattle.replay.proofs.runs.replay.Statement.{statement}
 use Rattle.replay.proofs.runs.replay.Tie as tie
 
-abbrev invariant-loop : tie.invariant-loop
+abbrev invariant-loop : tie.invariant-loop-at
 invariant-loop b₀ calls answers₀ ran₀ at₀ written₀ b answers ran at written = Progress calls b₀ answers₀ b answers ran at written
 
-abbrev decreases-loop : tie.decreases-loop
+abbrev decreases-loop : tie.decreases-loop-at
 decreases-loop b₀ calls answers₀ ran₀ at₀ written₀ b answers ran at written = length calls - at
 
--- the places where a call has run: `run_next` that ran it, the loop's head before it, and the function's entry
+-- the place where a call has run
 abbrev Ran : Type 0
-Ran = tie.After-known-told invariant-loop decreases-loop
-
-abbrev call : Ran → tie.After-run-next invariant-loop decreases-loop
-call c = c.before.before.before.before.before.before.before
-
-abbrev head : Ran → tie.At-loop invariant-loop decreases-loop
-head c = (call c).before.before.before.before.before
-
-abbrev entry : Ran → tie.Start invariant-loop decreases-loop
-entry c = (head c).before.before.before.before
+Ran = tie.In-Ran invariant-loop decreases-loop
 
 -- how many numbers the call took and its answer has; the buffer and the part of the answers that it left
 abbrev size : Ran → ℕ
-size c = c.before.size.given.0.0
+size c = c.in-Ran.size
 
 abbrev count : Ran → ℕ
-count c = c.before.size.given.0.1.0
+count c = c.in-Ran.count
 
 abbrev buffer : Ran → List ℕ
-buffer c = (call c).run_next.new.0
+buffer c = c.run_next.new.b
 
 abbrev part : Ran → List ℕ
-part c = (call c).run_next.new.1.1.0
+part c = c.run_next.new.out
 
 module _ (c : Ran) where
-  ran_next : RanNext (take (length (entry c).args.calls.now - (head c).loop.at) (drop (head c).loop.at (entry c).args.calls.now))
-      (head c).loop.b (take (length (head c).loop.answers - (head c).loop.written) (drop (head c).loop.written (head c).loop.answers))
+  ran_next : RanNext (take (length c.args.calls.now - c.loop-at.at) (drop c.loop-at.at c.args.calls.now))
+      c.loop-at.b (take (length c.loop-at.answers - c.loop-at.written) (drop c.loop-at.written c.loop-at.answers))
       (size c) (count c) (buffer c) (part c)
   ran_next =
-      let run = c.before.before.before.before.before.before.before in
-      rw c.before.size.given.1 at run.run_next.ensures
+      rw c.in-Ran.is at c.run_next.ensures
 
-  progress : Progress (entry c).args.calls.now (entry c).args.b.now (entry c).args.answers.now (buffer c)
-      (put_mid (head c).loop.written (length (head c).loop.answers - (head c).loop.written) (head c).loop.answers (part c))
-      ((head c).loop.ran + 1) ((head c).loop.at + size c) ((head c).loop.written + count c)
-  progress = progress_ran (head c).loop.invariant (call c).before.before.before.before.loop-test.true ran_next (call c).run_next.auto.0
+  progress : Progress c.args.calls.now c.args.b.now c.args.answers.now (buffer c)
+      (put_mid c.loop-at.written (length c.loop-at.answers - c.loop-at.written) c.loop-at.answers (part c))
+      (c.loop-at.ran + 1) (c.loop-at.at + size c) (c.loop-at.written + count c)
+  progress = progress_ran c.loop-at.invariant c.loop-at-test.true ran_next c.run_next.auto.b
 
-loop-holds : tie.Need-loop-init invariant-loop decreases-loop
+loop-holds : tie.Need-loop-at-init invariant-loop decreases-loop
 loop-holds c = progress_start
 
-mul_run_next : tie.Need-overflow-mul-run-next invariant-loop decreases-loop
-mul_run_next c = let p = c.before.before.loop.invariant in omega arith
+mul_run_next : tie.Need-offset_bounds-calls-at invariant-loop decreases-loop
+mul_run_next c = let p = c.loop-at.invariant in omega arith
 
-sub_run_next : tie.Need-overflow-sub-run-next invariant-loop decreases-loop
-sub_run_next c = let p = c.before.before.loop.invariant in omega arith
+sub_run_next : tie.Need-slice_bounds-run_next-count invariant-loop decreases-loop
+sub_run_next c = let p = c.loop-at.invariant in omega arith
 
-part_run_next_start : tie.Need-slice-bounds-run-next-start invariant-loop decreases-loop
-part_run_next_start c = let p = c.before.before.loop.invariant in omega arith
+part_run_next_start : tie.Need-slice_bounds-run_next-start invariant-loop decreases-loop
+part_run_next_start c = let p = c.loop-at.invariant in omega arith
 
-part_run_next_end : tie.Need-slice-bounds-run-next-end invariant-loop decreases-loop
-part_run_next_end c = let p = c.before.before.loop.invariant in omega arith
+part_run_next_end : tie.Need-slice_bounds-run_next-end invariant-loop decreases-loop
+part_run_next_end c = let p = c.loop-at.invariant in omega arith
 
-mul_run_next_2 : tie.Need-overflow-mul-run-next-2 invariant-loop decreases-loop
-mul_run_next_2 c = let p = c.before.before.before.loop.invariant in omega arith
+mul_run_next_2 : tie.Need-offset_bounds-answers-written invariant-loop decreases-loop
+mul_run_next_2 c = let p = c.loop-at.invariant in omega arith
 
-sub_run_next_2 : tie.Need-overflow-sub-run-next-2 invariant-loop decreases-loop
-sub_run_next_2 c = let p = c.before.before.before.loop.invariant in omega arith
+sub_run_next_2 : tie.Need-slice_bounds-run_next-count-in-loop-at invariant-loop decreases-loop
+sub_run_next_2 c = let p = c.loop-at.invariant in omega arith
 
-part_run_next_start_2 : tie.Need-slice-bounds-run-next-start-2 invariant-loop decreases-loop
-part_run_next_start_2 c = let p = c.before.before.before.loop.invariant in omega arith
+part_run_next_start_2 : tie.Need-slice_bounds-run_next-start-in-loop-at invariant-loop decreases-loop
+part_run_next_start_2 c = let p = c.loop-at.invariant in omega arith
 
-part_run_next_end_2 : tie.Need-slice-bounds-run-next-end-2 invariant-loop decreases-loop
-part_run_next_end_2 c = let p = c.before.before.before.loop.invariant in omega arith
+part_run_next_end_2 : tie.Need-slice_bounds-run_next-end-in-loop-at invariant-loop decreases-loop
+part_run_next_end_2 c = let p = c.loop-at.invariant in omega arith
 
-run-next-requires : tie.Need-run-next-requires invariant-loop decreases-loop
+run-next-requires : tie.Need-run_next-requires invariant-loop decreases-loop
 run-next-requires c κs = search rules
 
-enum_known_size : tie.Need-enum-known-size invariant-loop decreases-loop
+enum_known_size : tie.Need-enum_known-size invariant-loop decreases-loop
 enum_known_size c = search rules
 
-enum_told : tie.Need-enum-told invariant-loop decreases-loop
+enum_told : tie.Need-enum_told-1 invariant-loop decreases-loop
 enum_told c = search rules
 
-same_length : tie.Need-same-length invariant-loop decreases-loop
+same_length : tie.Need-shape_of-b-in_default invariant-loop decreases-loop
 same_length c =
-    let call = c.before.before.before.before.before.before in
-    call.run_next.auto.0 ∙ call.before.before.before.before.before.loop.invariant.buffer
+    c.run_next.auto.b ∙ c.loop-at.invariant.buffer
 
-same_length_2 : tie.Need-same-length-2 invariant-loop decreases-loop
+same_length_2 : tie.Need-shape_of-answers-in_default invariant-loop decreases-loop
 same_length_2 c =
-    let call = c.before.before.before.before.before.before in
-    let l = call.before.before.before.before.before.loop in
-    same_len_mid l.written (length l.answers - l.written) l.answers call.run_next.new.1.1.0 call.run_next.auto.1.1.0
+    let l = c.loop-at in
+    same_len_mid l.written (length l.answers - l.written) l.answers c.run_next.new.out c.run_next.auto.out
     ∙ l.invariant.room
 
-returns : tie.Need-returns invariant-loop decreases-loop
+returns : tie.Need-returns-in_default invariant-loop decreases-loop
 returns c =
-    let call = c.before.before.before.before.before.before in
-    let l = call.before.before.before.before.before.loop in
-    let stop = rw c.enum_told.given.1 at call.run_next.ensures in
+    let l = c.loop-at in
+    let stop = rw c.in_default.is at c.run_next.ensures in
     replayed (left_stopped l.invariant stop)
 
-add_ran : tie.Need-overflow-add-ran invariant-loop decreases-loop
-add_ran c = let p = (head c).loop.invariant in omega arith
+add_ran : tie.Need-overflow_add-ran invariant-loop decreases-loop
+add_ran c = let p = c.loop-at.invariant in omega arith
 
-add_at : tie.Need-overflow-add-at invariant-loop decreases-loop
+add_at : tie.Need-overflow_add-at invariant-loop decreases-loop
 add_at c = let p = progress c in omega arith
 
-add_written : tie.Need-overflow-add-written invariant-loop decreases-loop
+add_written : tie.Need-overflow_add-written invariant-loop decreases-loop
 add_written c = let p = progress c in omega arith
 
-loop-less : tie.Need-loop-smaller invariant-loop decreases-loop
+loop-less : tie.Need-loop-at-smaller invariant-loop decreases-loop
 loop-less c = omega (arith, (ran_next c).some)
 
-loop-again : tie.Need-loop-preserved invariant-loop decreases-loop
+loop-again : tie.Need-loop-at-preserved invariant-loop decreases-loop
 loop-again c = progress c
 
-same_length_3 : tie.Need-same-length-3 invariant-loop decreases-loop
-same_length_3 c = c.before.loop.invariant.buffer
+same_length_3 : tie.Need-shape_of-b invariant-loop decreases-loop
+same_length_3 c = c.loop-at.invariant.buffer
 
-same_length_4 : tie.Need-same-length-4 invariant-loop decreases-loop
-same_length_4 c = c.before.loop.invariant.room
+same_length_4 : tie.Need-shape_of-answers invariant-loop decreases-loop
+same_length_4 c = c.loop-at.invariant.room
 
-returns-2 : tie.Need-returns-2 invariant-loop decreases-loop
+returns-2 : tie.Need-returns invariant-loop decreases-loop
 returns-2 c =
-    let l = c.before.loop in
-    replayed (left_ended l.invariant c.loop-test.false)
+    let l = c.loop-at in
+    replayed (left_ended l.invariant c.loop-at-test.false)
 
 pub replay_spec : {M : Type 1} → statement M
 replay_spec =

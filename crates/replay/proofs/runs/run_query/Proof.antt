@@ -11,24 +11,24 @@ use Rattle.replay.proofs.runs.run_query.Tie as tie
 survey-requires : tie.Need-survey-requires
 survey-requires c κs = search rules
 
-survey-numbers-requires : tie.Need-survey-numbers-requires
+survey-numbers-requires : tie.Need-survey_numbers-requires
 survey-numbers-requires c κs = search rules
 
-returns : tie.Need-returns
+returns : tie.Need-returns-then-kind-eq-SURVEY
 unfolding call_with
-returns c = rw (c.before.before.if1.true, survey_step, ← c.before.survey.ensures) (c.survey_numbers.ensures, refl)
+returns c = rw (c.if-kind-eq-SURVEY.true, survey_step, ← c.survey.ensures) (c.survey_numbers.ensures, refl)
 
 read-requires : tie.Need-read-requires
 read-requires c κs = search rules
 
-read-numbers-requires : tie.Need-read-numbers-requires
+read-numbers-requires : tie.Need-read_numbers-requires
 read-numbers-requires c κs = search rules
 
-returns-2 : tie.Need-returns-2
+returns-2 : tie.Need-returns
 unfolding call_with
 returns-2 c =
-    let kind : c.before.before.before.before.args.call.kind ≡ 4 = omega arith in
-    rw kind (numbers_after c.read_numbers.ensures c.before.read.ensures)
+    let kind : c.args.call.kind ≡ 4 = omega arith in
+    rw kind (numbers_after c.read_numbers.ensures c.read.ensures)
 
 pub run_query_spec : {M : Type 1} → statement M
 run_query_spec =

@@ -9,50 +9,50 @@ use Rattle.script.proofs.Lends.{lent_next, lent_whole, lent_all, lent_too_many}
 use Rattle.script.proofs.lending.lend_bytes.Statement.{statement}
 use Rattle.script.proofs.lending.lend_bytes.Tie as tie
 
-abbrev invariant-loop : tie.invariant-loop
+abbrev invariant-loop : tie.invariant-loop-i
 invariant-loop bytes buffer₀ size i₀ buffer i = (i ≤ size) × (length buffer ≡ length buffer₀) × (buffer ≡ paste buffer₀ 0 bytes i)
 
-abbrev decreases-loop : tie.decreases-loop
+abbrev decreases-loop : tie.decreases-loop-i
 decreases-loop bytes buffer₀ size i₀ buffer i = size - i
 
-returns : tie.Need-returns invariant-loop decreases-loop
+returns : tie.Need-returns-then-buffer-size invariant-loop decreases-loop
 returns c =
-    let a = c.before.args in
+    let a = c.args in
     (lent_too_many a.bytes.now a.buffer.now (omega arith), tt)
 
-loop-holds : tie.Need-loop-init invariant-loop decreases-loop
+loop-holds : tie.Need-loop-i-init invariant-loop decreases-loop
 loop-holds c =
-    let a = c.before.args in
+    let a = c.args in
     (omega arith, refl, paste-zero a.buffer.now 0 a.bytes.now)
 
-shared_slice_read_buffer : tie.Need-shared-slice-read-buffer invariant-loop decreases-loop
+shared_slice_read_buffer : tie.Need-bounds-bytes-i invariant-loop decreases-loop
 shared_slice_read_buffer c = search rules
 
-slice_write_buffer : tie.Need-slice-write-buffer invariant-loop decreases-loop
+slice_write_buffer : tie.Need-bounds-buffer-i invariant-loop decreases-loop
 slice_write_buffer c = search rules
 
-add_i : tie.Need-overflow-add-i invariant-loop decreases-loop
+add_i : tie.Need-overflow_add-i invariant-loop decreases-loop
 add_i c = search rules
 
-loop-less : tie.Need-loop-smaller invariant-loop decreases-loop
+loop-less : tie.Need-loop-i-smaller invariant-loop decreases-loop
 loop-less c = search rules
 
-loop-again : tie.Need-loop-preserved invariant-loop decreases-loop
+loop-again : tie.Need-loop-i-preserved invariant-loop decreases-loop
 loop-again c =
-    let a = c.before.before.before.before.args in
-    let l = c.before.before.loop in (
+    let a = c.args in
+    let l = c.loop-i in (
       omega arith,
       simp length-set l.invariant.1,
       lent_next a.bytes.now a.buffer.now l.buffer l.i _ (omega arith) (omega arith) refl l.invariant.2,
     )
 
-same_length : tie.Need-same-length invariant-loop decreases-loop
+same_length : tie.Need-shape_of-buffer invariant-loop decreases-loop
 same_length c = search rules
 
-returns-2 : tie.Need-returns-2 invariant-loop decreases-loop
+returns-2 : tie.Need-returns invariant-loop decreases-loop
 returns-2 c =
-    let a = c.before.before.before.args in
-    let l = c.before.loop in
+    let a = c.args in
+    let l = c.loop-i in
     let bytes = a.bytes.now in
     let all : l.i ≡ length bytes = omega arith in
     let whole = lent_whole bytes a.buffer.now l.buffer (length bytes) refl (rw all at l.invariant.2) in

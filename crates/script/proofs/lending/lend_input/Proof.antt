@@ -6,30 +6,30 @@ use borrow.Author.Rules.{rules}
 use Rattle.script.proofs.lending.lend_input.Statement.{statement}
 use Rattle.script.proofs.lending.lend_input.Tie as tie
 
-lend-bytes-requires : tie.Need-lend-bytes-requires
+lend-bytes-requires : tie.Need-lend_bytes-requires
 lend-bytes-requires c κs = search rules
 
-same_length : tie.Need-same-length
+same_length : tie.Need-shape_of-buffer-then-bytes-size
 same_length c = search rules
 
-returns : tie.Need-returns
+returns : tie.Need-returns-then-bytes-size
 returns c =
-    let a = c.before.before.before.before.before.before.before.args in
-    let l = c.before.before.lend_bytes.ensures in
+    let a = c.args in
+    let l = c.lend_bytes.ensures in
     (omega arith, rw (take_all a.size a.input.now (omega arith)) l.0, l.1)
 
-slice_aggregate_lend_bytes : tie.Need-slice-aggregate-lend-bytes
+slice_aggregate_lend_bytes : tie.Need-slice_bounds-lend_bytes-end
 slice_aggregate_lend_bytes c =
-    let a = c.before.before.before.before.args in
+    let a = c.args in
     sym (length-take-le a.size a.input.now (omega arith))
 
-lend-bytes-requires-2 : tie.Need-lend-bytes-requires-2
+lend-bytes-requires-2 : tie.Need-lend_bytes-requires-2
 lend-bytes-requires-2 c κs = search rules
 
-same_length_2 : tie.Need-same-length-2
+same_length_2 : tie.Need-shape_of-buffer
 same_length_2 c = search rules
 
-returns-2 : tie.Need-returns-2
+returns-2 : tie.Need-returns
 returns-2 c = search rules
 
 pub lend_input_spec : {M : Type 1} → statement M

@@ -10,46 +10,46 @@ use Rattle.script.proofs.Lends.{length_zeros, zero_at, lent_next, lent_whole, le
 use Rattle.script.proofs.lending.lend_zeros.Statement.{statement}
 use Rattle.script.proofs.lending.lend_zeros.Tie as tie
 
-abbrev invariant-loop : tie.invariant-loop
+abbrev invariant-loop : tie.invariant-loop-i
 invariant-loop n buffer₀ size i₀ buffer i = (i ≤ size) × (length buffer ≡ length buffer₀) × (buffer ≡ paste buffer₀ 0 (zeros n) i)
 
-abbrev decreases-loop : tie.decreases-loop
+abbrev decreases-loop : tie.decreases-loop-i
 decreases-loop n buffer₀ size i₀ buffer i = size - i
 
-returns : tie.Need-returns invariant-loop decreases-loop
+returns : tie.Need-returns-then-buffer-size invariant-loop decreases-loop
 returns c =
-    let a = c.before.args in
+    let a = c.args in
     (lent_too_many (zeros a.n) a.buffer.now (omega (arith, length_zeros a.n)), tt)
 
-loop-holds : tie.Need-loop-init invariant-loop decreases-loop
-loop-holds c = (omega arith, refl, paste-zero c.before.args.buffer.now 0 (zeros c.before.args.n))
+loop-holds : tie.Need-loop-i-init invariant-loop decreases-loop
+loop-holds c = (omega arith, refl, paste-zero c.args.buffer.now 0 (zeros c.args.n))
 
-slice_write_buffer : tie.Need-slice-write-buffer invariant-loop decreases-loop
+slice_write_buffer : tie.Need-bounds-buffer-i invariant-loop decreases-loop
 slice_write_buffer c = search rules
 
-add_i : tie.Need-overflow-add-i invariant-loop decreases-loop
+add_i : tie.Need-overflow_add-i invariant-loop decreases-loop
 add_i c = search rules
 
-loop-less : tie.Need-loop-smaller invariant-loop decreases-loop
+loop-less : tie.Need-loop-i-smaller invariant-loop decreases-loop
 loop-less c = search rules
 
-loop-again : tie.Need-loop-preserved invariant-loop decreases-loop
+loop-again : tie.Need-loop-i-preserved invariant-loop decreases-loop
 loop-again c =
-    let a = c.before.before.before.args in
-    let l = c.before.loop in
+    let a = c.args in
+    let l = c.loop-i in
     let long : l.i < length (zeros a.n) = omega (arith, length_zeros a.n) in (
       omega arith,
       simp length-set l.invariant.1,
       lent_next (zeros a.n) a.buffer.now l.buffer l.i 0 (omega arith) long (zero_at a.n l.i (omega arith)) l.invariant.2,
     )
 
-same_length : tie.Need-same-length invariant-loop decreases-loop
+same_length : tie.Need-shape_of-buffer invariant-loop decreases-loop
 same_length c = search rules
 
-returns-2 : tie.Need-returns-2 invariant-loop decreases-loop
+returns-2 : tie.Need-returns invariant-loop decreases-loop
 returns-2 c =
-    let a = c.before.before.before.args in
-    let l = c.before.loop in
+    let a = c.args in
+    let l = c.loop-i in
     let all : l.i ≡ a.n = omega arith in
     let size = length_zeros a.n in
     let whole = lent_whole (zeros a.n) a.buffer.now l.buffer a.n size (rw all at l.invariant.2) in

@@ -6,21 +6,21 @@ use borrow.Author.Rules.{rules}
 use Rattle.script.proofs.line.with_lists.Statement.{statement}
 use Rattle.script.proofs.line.with_lists.Tie as tie
 
-count-lists-requires : tie.Need-count-lists-requires
+count-lists-requires : tie.Need-count_lists-requires
 count-lists-requires c κs = search rules
 
-enum_told : tie.Need-enum-told
+enum_told : tie.Need-enum_told-1
 enum_told c = search rules
 
-returns : tie.Need-returns
+returns : tie.Need-returns-in_default
 returns c =
-    let o = put_list_of (words c.before.before.before.args.argument.now) in
-    rw (← counted_none o c.before.count_lists.result c.before.count_lists.ensures c.match.keys2)
+    let o = put_list_of (words c.args.argument.now) in
+    rw (← counted_none o c.count_lists.result c.count_lists.ensures c.in_default.in_default-own.keys2)
 
-returns-2 : tie.Need-returns-2
+returns-2 : tie.Need-returns
 returns-2 c =
-    let o = put_list_of (words c.before.before.before.before.args.argument.now) in
-    command_some o _ _ _ (sym c.enum_told.given.1 ∙ c.before.before.count_lists.ensures)
+    let o = put_list_of (words c.args.argument.now) in
+    command_some o _ _ _ (sym c.in-Taken.is ∙ c.count_lists.ensures)
 
 pub with_lists_spec : {M : Type 1} → statement M
 with_lists_spec = tie.close (tie.spec count-lists-requires enum_told returns returns-2)

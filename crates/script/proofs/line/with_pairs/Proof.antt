@@ -9,31 +9,31 @@ use Rattle.script.proofs.Naming.{hex_empty, hex_filled}
 use Rattle.script.proofs.line.with_pairs.Statement.{statement}
 use Rattle.script.proofs.line.with_pairs.Tie as tie
 
-count-pairs-requires : tie.Need-count-pairs-requires
+count-pairs-requires : tie.Need-count_pairs-requires
 count-pairs-requires c κs = search rules
 
-enum_known_n : tie.Need-enum-known-n
+enum_known_n : tie.Need-enum_known-n
 enum_known_n c = search rules
 
-enum_told : tie.Need-enum-told
+enum_told : tie.Need-enum_told-1
 enum_told c = search rules
 
-returns : tie.Need-returns
+returns : tie.Need-returns-in_default
 returns c =
-    let text = c.before.before.before.before.args.argument.now in
-    rw (← count_none (hex_bytes text) (sym c.enum_told.given.1 ∙ c.before.before.count_pairs.ensures))
+    let text = c.args.argument.now in
+    rw (← count_none (hex_bytes text) (sym c.in_default.is ∙ c.count_pairs.ensures))
 
-returns-2 : tie.Need-returns-2
+returns-2 : tie.Need-returns-then-n-eq0
 returns-2 c =
-    let o = hex_bytes c.before.before.before.before.before.before.args.argument.now in
-    let count = count_some o _ (sym c.before.before.n.given.1 ∙ c.before.before.before.before.count_pairs.ensures) in
+    let o = hex_bytes c.args.argument.now in
+    let count = count_some o _ (sym c.in-Are.is ∙ c.count_pairs.ensures) in
     rw count.0 (hex_empty (list_of o) (omega (arith, count.1)))
 
-returns-3 : tie.Need-returns-3
+returns-3 : tie.Need-returns
 returns-3 c =
-    let o = hex_bytes c.before.before.before.before.before.before.args.argument.now in
-    let count = count_some o _ (sym c.before.before.n.given.1 ∙ c.before.before.before.before.count_pairs.ensures) in
-    rw count.0 (hex_filled (list_of o) (λ e. c.if1.false (count.1 ∙ e)))
+    let o = hex_bytes c.args.argument.now in
+    let count = count_some o _ (sym c.in-Are.is ∙ c.count_pairs.ensures) in
+    rw count.0 (hex_filled (list_of o) (λ e. c.if-n-eq0.false (count.1 ∙ e)))
 
 pub with_pairs_spec : {M : Type 1} → statement M
 with_pairs_spec =

@@ -12,84 +12,84 @@ use borrow.Author.Rules.{rules}
 use Rattle.script.proofs.numbers.parse_numbers.Statement.{statement}
 use Rattle.script.proofs.numbers.parse_numbers.Tie as tie
 
-abbrev invariant-loop : tie.invariant-loop
+abbrev invariant-loop : tie.invariant-loop-at
 invariant-loop text all₀ at₀ all at =
     (at ≤ length text) × Starts (drop at text) × (numbers_on all (words (drop at text)) ≡ numbers_on Numbers.None (words text))
 
-abbrev decreases-loop : tie.decreases-loop
+abbrev decreases-loop : tie.decreases-loop-at
 decreases-loop text all₀ at₀ all at = length text - at
 
-skip-blanks-requires : tie.Need-skip-blanks-requires invariant-loop decreases-loop
+skip-blanks-requires : tie.Need-skip_blanks-at-requires invariant-loop decreases-loop
 skip-blanks-requires c κs = omega arith
 
-loop-holds : tie.Need-loop-init invariant-loop decreases-loop
+loop-holds : tie.Need-loop-at-init invariant-loop decreases-loop
 loop-holds c =
-    let text = c.before.before.args.text.now in
-    let start = c.skip_blanks in (
+    let text = c.args.text.now in
+    let start = c.skip_blanks-at in (
       start.ensures.2,
       starts text text start.result start.ensures.0,
       ap (numbers_on Numbers.None) (ap words start.ensures.0 ∙ words_skip text),
     )
 
-word-end-requires : tie.Need-word-end-requires invariant-loop decreases-loop
+word-end-requires : tie.Need-word_end-end-requires invariant-loop decreases-loop
 word-end-requires c κs = omega arith
 
-sub_parse_number : tie.Need-overflow-sub-parse-number invariant-loop decreases-loop
+sub_parse_number : tie.Need-slice_bounds-parse_number-count invariant-loop decreases-loop
 sub_parse_number c = omega arith
 
-part_parse_number_start : tie.Need-slice-bounds-parse-number-start invariant-loop decreases-loop
+part_parse_number_start : tie.Need-slice_bounds-parse_number-start invariant-loop decreases-loop
 part_parse_number_start c = omega arith
 
-part_parse_number_end : tie.Need-slice-bounds-parse-number-end invariant-loop decreases-loop
+part_parse_number_end : tie.Need-slice_bounds-parse_number-end invariant-loop decreases-loop
 part_parse_number_end c = omega arith
 
-parse-number-requires : tie.Need-parse-number-requires invariant-loop decreases-loop
+parse-number-requires : tie.Need-parse_number-requires invariant-loop decreases-loop
 parse-number-requires c κs = search rules
 
-enum_known_n : tie.Need-enum-known-n invariant-loop decreases-loop
+enum_known_n : tie.Need-enum_known-n invariant-loop decreases-loop
 enum_known_n c = search rules
 
-enum_told : tie.Need-enum-told invariant-loop decreases-loop
+enum_told : tie.Need-enum_told-1 invariant-loop decreases-loop
 enum_told c = search rules
 
-returns : tie.Need-returns invariant-loop decreases-loop
+returns : tie.Need-returns-in_default invariant-loop decreases-loop
 returns c =
-    let text = c.before.before.before.before.before.before.before.before.before.args.text.now in
-    let l = c.before.before.before.before.before.before.loop in
-    let end = c.before.before.before.before.word_end in
+    let text = c.args.text.now in
+    let l = c.loop-at in
+    let end = c.word_end-end in
     let step = numbers_step text l.at end.result (omega arith) l.invariant.1 end.ensures.0 l.all in
-    rw (← l.invariant.2, step, ← c.before.before.parse_number.ensures, c.enum_told.given.1, and_nothing l.all, numbers_unreadable)
+    rw (← l.invariant.2, step, ← c.parse_number.ensures, c.in_default.is, and_nothing l.all, numbers_unreadable)
 
-with-requires : tie.Need-with-requires invariant-loop decreases-loop
+with-requires : tie.Need-with-all-requires invariant-loop decreases-loop
 with-requires c κs = search rules
 
-skip-blanks-requires-2 : tie.Need-skip-blanks-requires-2 invariant-loop decreases-loop
+skip-blanks-requires-2 : tie.Need-skip_blanks-at-requires-in-loop-at invariant-loop decreases-loop
 skip-blanks-requires-2 c κs = omega arith
 
-loop-less : tie.Need-loop-smaller invariant-loop decreases-loop
+loop-less : tie.Need-loop-at-smaller invariant-loop decreases-loop
 loop-less c =
-    let text = c.before.before.before.before.before.before.before.before.before.before.before.before.args.text.now in
-    let l = c.before.before.before.before.before.before.before.before.before.loop in
-    let end = c.before.before.before.before.before.before.before.word_end in
+    let text = c.args.text.now in
+    let l = c.loop-at in
+    let end = c.word_end-end in
     let more = word_moves text l.at end.result (omega arith) l.invariant.1 end.ensures.0 in
-    omega (arith, more, c.skip_blanks2.ensures.1)
+    omega (arith, more, c.skip_blanks-at-in-loop-at.ensures.1)
 
-loop-again : tie.Need-loop-preserved invariant-loop decreases-loop
+loop-again : tie.Need-loop-at-preserved invariant-loop decreases-loop
 loop-again c =
-    let text = c.before.before.before.before.before.before.before.before.before.before.before.before.args.text.now in
-    let l = c.before.before.before.before.before.before.before.before.before.loop in
-    let end = c.before.before.before.before.before.before.before.word_end in
-    let next = c.skip_blanks2 in
+    let text = c.args.text.now in
+    let l = c.loop-at in
+    let end = c.word_end-end in
+    let next = c.skip_blanks-at-in-loop-at in
     let step = numbers_step text l.at end.result (omega arith) l.invariant.1 end.ensures.0 l.all in
     let skip = words_skip (drop end.result text) in
     (next.ensures.2, starts text _ next.result next.ensures.0, cc (step, skip))
 
-returns-2 : tie.Need-returns-2 invariant-loop decreases-loop
+returns-2 : tie.Need-returns invariant-loop decreases-loop
 unfolding numbers_on words pieces
 returns-2 c =
-    let text = c.before.before.before.before.args.text.now in
-    let l = c.before.loop in
-    rw (← l.invariant.2, drop_of_length-le text {i = l.at} c.loop-test.false)
+    let text = c.args.text.now in
+    let l = c.loop-at in
+    rw (← l.invariant.2, drop_of_length-le text {i = l.at} c.loop-at-test.false)
 
 pub parse_numbers_spec : {M : Type 1} → statement M
 parse_numbers_spec =

@@ -5,33 +5,33 @@ use borrow.Author.Rules.{rules}
 use Rattle.script.proofs.numbers.with_digit.Statement.{statement}
 use Rattle.script.proofs.numbers.with_digit.Tie as tie
 
-returns : tie.Need-returns
-returns c = digit_below c.before.args.n c.before.args.byte c.if1.true
+returns : tie.Need-returns-then-byte-lt48
+returns c = digit_below c.args.n c.args.byte c.if-byte-lt48.true
 
-returns-2 : tie.Need-returns-2
-returns-2 c = digit_above c.before.before.args.n c.before.before.args.byte c.before.if1.false c.if2.true
+returns-2 : tie.Need-returns-then-byte-gt57
+returns-2 c = digit_above c.args.n c.args.byte c.if-byte-lt48.false c.if-byte-gt57.true
 
-cast_digit : tie.Need-overflow-cast-digit
+cast_digit : tie.Need-overflow_cast-digit
 cast_digit c = search rules
 
-sub_if3 : tie.Need-overflow-sub-if3
+sub_if3 : tie.Need-overflow_sub-digit-2
 sub_if3 c = search rules
 
-returns-3 : tie.Need-returns-3
+returns-3 : tie.Need-returns-then-digit-n
 returns-3 c =
-    let a = c.before.before.before.args in
-    digit_large a.n a.byte c.before.before.if1.false c.before.if2.false (omega arith)
+    let a = c.args in
+    digit_large a.n a.byte c.if-byte-lt48.false c.if-byte-gt57.false (omega arith)
 
-mul_t6 : tie.Need-overflow-mul-t6
+mul_t6 : tie.Need-overflow_mul-result
 mul_t6 c = search rules
 
-add_t7 : tie.Need-overflow-add-t7
+add_t7 : tie.Need-overflow_add-result
 add_t7 c = search rules
 
-returns-4 : tie.Need-returns-4
+returns-4 : tie.Need-returns
 returns-4 c =
-    let a = c.before.before.before.args in
-    digit_is a.n a.byte c.before.before.if1.false c.before.if2.false (omega arith)
+    let a = c.args in
+    digit_is a.n a.byte c.if-byte-lt48.false c.if-byte-gt57.false (omega arith)
 
 pub with_digit_spec : {M : Type 1} → statement M
 with_digit_spec =

@@ -4,33 +4,33 @@ use borrow.Author.Rules.{rules}
 use Rattle.script.proofs.parts.argument.Statement.{statement}
 use Rattle.script.proofs.parts.argument.Tie as tie
 
-bare-requires : tie.Need-bare-requires
+bare-requires : tie.Need-bare-part-requires
 bare-requires c κs = search rules
 
-sub_text : tie.Need-overflow-sub-text
+sub_text : tie.Need-slice_bounds-text-count
 sub_text c = search rules
 
-part_text_start : tie.Need-slice-bounds-text-start
+part_text_start : tie.Need-slice_bounds-text-start
 part_text_start c = search rules
 
-part_text_end : tie.Need-slice-bounds-text-end
+part_text_end : tie.Need-slice_bounds-text-end
 part_text_end c = search rules
 
-word-end-requires : tie.Need-word-end-requires
+word-end-requires : tie.Need-word_end-end-requires
 word-end-requires c κs = search rules
 
-skip-blanks-requires : tie.Need-skip-blanks-requires
+skip-blanks-requires : tie.Need-skip_blanks-start-requires
 skip-blanks-requires c κs = search rules
 
-add_t9 : tie.Need-overflow-add-t9
+add_t9 : tie.Need-overflow_add-result
 add_t9 c = search rules
 
 returns : tie.Need-returns
 returns c =
-    let line = c.before.before.before.before.before.args.line.now in
-    let part = c.before.before.before.bare in
-    let end = c.before.word_end in
-    let start = c.skip_blanks in
+    let line = c.args.line.now in
+    let part = c.bare-part in
+    let end = c.word_end-end in
+    let start = c.skip_blanks-start in
     argument_part line part.result.from part.result.to end.result start.result part.ensures end.ensures.0 start.ensures.0
     start.ensures.2
 

@@ -5,27 +5,27 @@ use Rattle.script.proofs.Blanks.{return_empty, return_cut, return_kept}
 use Rattle.script.proofs.parts.return_start.Statement.{statement}
 use Rattle.script.proofs.parts.return_start.Tie as tie
 
-returns : tie.Need-returns
-returns c = (return_empty c.before.args.line.now c.if1.true, omega arith)
+returns : tie.Need-returns-then-end-eq0
+returns c = (return_empty c.args.line.now c.if-end-eq0.true, omega arith)
 
-sub_if2 : tie.Need-overflow-sub-if2
+sub_if2 : tie.Need-overflow_sub-end
 sub_if2 c = search rules
 
-shared_slice_read_if2 : tie.Need-shared-slice-read-if2
+shared_slice_read_if2 : tie.Need-bounds-line-end
 shared_slice_read_if2 c = search rules
 
-sub_result : tie.Need-overflow-sub-result
+sub_result : tie.Need-overflow_sub-result
 sub_result c = search rules
 
-returns-2 : tie.Need-returns-2
+returns-2 : tie.Need-returns-then-line-end-eq13
 returns-2 c =
-    let line = c.before.before.before.args.line.now in
-    (return_cut line c.before.before.if1.false c.if2.true, omega arith)
+    let line = c.args.line.now in
+    (return_cut line c.if-end-eq0.false c.if-line-end-eq13.true, omega arith)
 
-returns-3 : tie.Need-returns-3
+returns-3 : tie.Need-returns
 returns-3 c =
-    let line = c.before.before.before.args.line.now in
-    (return_kept line c.before.before.if1.false c.if2.false, omega arith)
+    let line = c.args.line.now in
+    (return_kept line c.if-end-eq0.false c.if-line-end-eq13.false, omega arith)
 
 pub return_start_spec : {M : Type 1} → statement M
 return_start_spec =

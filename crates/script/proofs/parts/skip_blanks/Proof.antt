@@ -10,45 +10,45 @@ use Rattle.script.proofs.Blanks.{skip_next, skip_here, skip_beyond}
 use Rattle.script.proofs.parts.skip_blanks.Statement.{statement}
 use Rattle.script.proofs.parts.skip_blanks.Tie as tie
 
-abbrev invariant-loop : tie.invariant-loop
+abbrev invariant-loop : tie.invariant-loop-i
 invariant-loop b from i₀ i = (skip_blanks (drop i b) ≡ skip_blanks (drop from b)) × (from ≤ i) × (i ≤ length b)
 
-abbrev decreases-loop : tie.decreases-loop
+abbrev decreases-loop : tie.decreases-loop-i
 decreases-loop b from i₀ i = length b - i
 
-loop-holds : tie.Need-loop-init invariant-loop decreases-loop
-loop-holds c = (refl, omega arith, c.before.requires)
+loop-holds : tie.Need-loop-i-init invariant-loop decreases-loop
+loop-holds c = (refl, omega arith, c.requires)
 
-shared_slice_read_is_blank : tie.Need-shared-slice-read-is-blank invariant-loop decreases-loop
+shared_slice_read_is_blank : tie.Need-bounds-b-i invariant-loop decreases-loop
 shared_slice_read_is_blank c = omega arith
 
-is-blank-requires : tie.Need-is-blank-requires invariant-loop decreases-loop
+is-blank-requires : tie.Need-is_blank-requires invariant-loop decreases-loop
 is-blank-requires c κs = search rules
 
-returns : tie.Need-returns invariant-loop decreases-loop
+returns : tie.Need-returns-then-not-is_blank invariant-loop decreases-loop
 returns c =
-    let b = c.before.before.before.before.before.before.args.b.now in
-    let l = c.before.before.before.before.loop in
-    let other = sym c.before.is_blank.ensures ∙ not-true _ c.if1.true in
+    let b = c.args.b.now in
+    let l = c.loop-i in
+    let other = sym c.is_blank.ensures ∙ c.if-not-is_blank.true in
     (sym (skip_here b l.i (omega arith) other) ∙ l.invariant.0, omega arith, omega arith)
 
-add_i : tie.Need-overflow-add-i invariant-loop decreases-loop
+add_i : tie.Need-overflow_add-i invariant-loop decreases-loop
 add_i c = omega arith
 
-loop-less : tie.Need-loop-smaller invariant-loop decreases-loop
+loop-less : tie.Need-loop-i-smaller invariant-loop decreases-loop
 loop-less c = omega arith
 
-loop-again : tie.Need-loop-preserved invariant-loop decreases-loop
+loop-again : tie.Need-loop-i-preserved invariant-loop decreases-loop
 loop-again c =
-    let b = c.before.before.before.before.before.before.args.b.now in
-    let l = c.before.before.before.before.loop in
-    let blank = sym c.before.is_blank.ensures ∙ not-false _ c.if1.false in
+    let b = c.args.b.now in
+    let l = c.loop-i in
+    let blank = sym c.is_blank.ensures ∙ c.if-not-is_blank.false in
     (sym (skip_next b l.i (omega arith) blank) ∙ l.invariant.0, omega arith, omega arith)
 
-returns-2 : tie.Need-returns-2 invariant-loop decreases-loop
+returns-2 : tie.Need-returns invariant-loop decreases-loop
 returns-2 c =
-    let l = c.before.loop in
-    (sym (skip_beyond c.before.before.before.args.b.now l.i c.loop-test.false) ∙ l.invariant.0, omega arith, omega arith)
+    let l = c.loop-i in
+    (sym (skip_beyond c.args.b.now l.i c.loop-i-test.false) ∙ l.invariant.0, omega arith, omega arith)
 
 pub skip_blanks_spec : {M : Type 1} → statement M
 skip_blanks_spec =

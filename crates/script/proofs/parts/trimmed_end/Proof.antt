@@ -11,48 +11,48 @@ use Rattle.script.proofs.Blanks.{trim_here, trim_next, trim_all}
 use Rattle.script.proofs.parts.trimmed_end.Statement.{statement}
 use Rattle.script.proofs.parts.trimmed_end.Tie as tie
 
-abbrev invariant-loop : tie.invariant-loop
+abbrev invariant-loop : tie.invariant-loop-end
 invariant-loop b end₀ end = (trim_end (take end b) ≡ trim_end b) × (end ≤ length b)
 
-abbrev decreases-loop : tie.decreases-loop
+abbrev decreases-loop : tie.decreases-loop-end
 decreases-loop b end₀ end = end
 
-loop-holds : tie.Need-loop-init invariant-loop decreases-loop
-loop-holds c = (ap trim_end (take-length c.before.args.b.now), omega arith)
+loop-holds : tie.Need-loop-end-init invariant-loop decreases-loop
+loop-holds c = (ap trim_end (take-length c.args.b.now), omega arith)
 
-sub_is_blank : tie.Need-overflow-sub-is-blank invariant-loop decreases-loop
+sub_is_blank : tie.Need-overflow_sub-end invariant-loop decreases-loop
 sub_is_blank c = omega arith
 
-shared_slice_read_is_blank : tie.Need-shared-slice-read-is-blank invariant-loop decreases-loop
+shared_slice_read_is_blank : tie.Need-bounds-b-end invariant-loop decreases-loop
 shared_slice_read_is_blank c = omega arith
 
-is-blank-requires : tie.Need-is-blank-requires invariant-loop decreases-loop
+is-blank-requires : tie.Need-is_blank-requires invariant-loop decreases-loop
 is-blank-requires c κs = search rules
 
-returns : tie.Need-returns invariant-loop decreases-loop
+returns : tie.Need-returns-then-not-is_blank invariant-loop decreases-loop
 returns c =
-    let b = c.before.before.before.before.before.before.args.b.now in
-    let l = c.before.before.before.before.loop in
-    let other = sym c.before.is_blank.ensures ∙ not-true _ c.if1.true in
+    let b = c.args.b.now in
+    let l = c.loop-end in
+    let other = sym c.is_blank.ensures ∙ c.if-not-is_blank.true in
     (sym (trim_here b l.end (omega arith) (omega arith) other) ∙ l.invariant.0, omega arith)
 
-sub_end : tie.Need-overflow-sub-end invariant-loop decreases-loop
+sub_end : tie.Need-overflow_sub-end-in-loop-end invariant-loop decreases-loop
 sub_end c = omega arith
 
-loop-less : tie.Need-loop-smaller invariant-loop decreases-loop
+loop-less : tie.Need-loop-end-smaller invariant-loop decreases-loop
 loop-less c = omega arith
 
-loop-again : tie.Need-loop-preserved invariant-loop decreases-loop
+loop-again : tie.Need-loop-end-preserved invariant-loop decreases-loop
 loop-again c =
-    let b = c.before.before.before.before.before.before.args.b.now in
-    let l = c.before.before.before.before.loop in
-    let blank = sym c.before.is_blank.ensures ∙ not-false _ c.if1.false in
+    let b = c.args.b.now in
+    let l = c.loop-end in
+    let blank = sym c.is_blank.ensures ∙ c.if-not-is_blank.false in
     (sym (trim_next b l.end (omega arith) (omega arith) blank) ∙ l.invariant.0, omega arith)
 
-returns-2 : tie.Need-returns-2 invariant-loop decreases-loop
+returns-2 : tie.Need-returns invariant-loop decreases-loop
 returns-2 c =
-    let l = c.before.loop in
-    (trim_all c.before.before.before.args.b.now l.end (omega arith) l.invariant.0, omega arith)
+    let l = c.loop-end in
+    (trim_all c.args.b.now l.end (omega arith) l.invariant.0, omega arith)
 
 pub trimmed_end_spec : {M : Type 1} → statement M
 trimmed_end_spec =

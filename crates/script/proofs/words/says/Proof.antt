@@ -9,7 +9,7 @@ same-requires c κs = search rules
 
 returns : tie.Need-returns
 returns c =
-    let a = c.before.before.before.args in
+    let a = c.args in
     is_same c.same.result a.name.now a.word.now c.same.ensures.0 c.same.ensures.1
 
 pub says_spec : {M : Type 1} → statement M

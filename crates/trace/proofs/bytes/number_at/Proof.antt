@@ -5,16 +5,16 @@ use Rattle.trace.proofs.Parts.{length_part}
 use Rattle.trace.proofs.bytes.number_at.Statement.{statement}
 use Rattle.trace.proofs.bytes.number_at.Tie as tie
 
-add_end : tie.Need-overflow-add-end
+add_end : tie.Need-overflow_add-end
 add_end c = search rules
 
-sub_number : tie.Need-overflow-sub-number
+sub_number : tie.Need-slice_bounds-number-count
 sub_number c = search rules
 
-part_number_start : tie.Need-slice-bounds-number-start
+part_number_start : tie.Need-slice_bounds-number-start
 part_number_start c = search rules
 
-part_number_end : tie.Need-slice-bounds-number-end
+part_number_end : tie.Need-slice_bounds-number-end
 part_number_end c = search rules
 
 number-requires : tie.Need-number-requires
@@ -23,9 +23,9 @@ number-requires c κs = search rules
 returns : tie.Need-returns
 unfolding part
 returns c =
-    let a = c.before.before.before.args in
+    let a = c.args in
     let size : a.at + a.size - a.at ≡ a.size = omega arith in
-    let long = length_part a.b.now a.at a.size c.before.before.before.requires.0 in
+    let long = length_part a.b.now a.at a.size c.requires.0 in
     (c.number.ensures.0 ∙ rw size, rw (size, long) at c.number.ensures.1)
 
 pub number_at_spec : {M : Type 1} → statement M

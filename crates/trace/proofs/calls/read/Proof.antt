@@ -4,12 +4,12 @@ use Rattle.trace.proofs.Readings.{read_step}
 use Rattle.trace.proofs.calls.read.Statement.{statement}
 use Rattle.trace.proofs.calls.read.Tie as tie
 
-read-alone-requires : tie.Need-read-alone-requires
+read-alone-requires : tie.Need-read_alone-requires
 read-alone-requires c κs = search rules
 
 returns : tie.Need-returns
 returns c =
-    let a = c.before.before.args in
+    let a = c.args in
     rw c.read_alone.ensures (sym (read_step a.b.now a.slot))
 
 pub read_spec : {M : Type 1} → statement M

@@ -6,26 +6,26 @@ use Rattle.std.proofs.Common.{rules}
 use Rattle.trace.proofs.change.flip_content.Statement.{statement}
 use Rattle.trace.proofs.change.flip_content.Tie as tie
 
-find-bit-requires : tie.Need-find-bit-requires
+find-bit-requires : tie.Need-find_bit-requires
 find-bit-requires c κs = search rules
 
-enum_known_r : tie.Need-enum-known-r
+enum_known_r : tie.Need-enum_known-r
 enum_known_r c = search rules
 
-enum_known_word : tie.Need-enum-known-word
+enum_known_word : tie.Need-enum_known-word
 enum_known_word c = search rules
 
-returns : tie.Need-returns
+returns : tie.Need-returns-in-Refused
 returns c =
-    let a = c.before.before.before.before.args in
+    let a = c.args in
     λ v slot i.
     behind_refused (λ π x. bit_rows π x a.position) (projection a.code) a.content v slot i _
-    (rw c.before.r.given.1 at c.before.before.before.find_bit.ensures)
+    (rw c.in-Refused.is at c.find_bit.ensures)
 
-returns-2 : tie.Need-returns-2
+returns-2 : tie.Need-returns-in-At
 returns-2 c =
-    let a = c.before.before.before.before.args in
-    flip_changed (projection a.code) a.content a.position _ _ _ (rw c.before.word.given.1 at c.before.before.before.find_bit.ensures)
+    let a = c.args in
+    flip_changed (projection a.code) a.content a.position _ _ _ (rw c.in-At.is at c.find_bit.ensures)
 
 pub flip_content_spec : {M : Type 1} → statement M
 flip_content_spec =

@@ -7,50 +7,50 @@ use Rattle.trace.proofs.Changes.{behind_refused, load_changed}
 use Rattle.trace.proofs.change.load_content.Statement.{statement}
 use Rattle.trace.proofs.change.load_content.Tie as tie
 
-enum_told : tie.Need-enum-told
+enum_told : tie.Need-enum_told-1
 enum_told c = search rules
 
-enum_told_2 : tie.Need-enum-told-2
+enum_told_2 : tie.Need-enum_told-in-Blank
 enum_told_2 c = search rules
 
-enum_known_content : tie.Need-enum-known-content
+enum_known_content : tie.Need-enum_known-content
 enum_known_content c = search rules
 
-width-requires : tie.Need-width-requires
+width-requires : tie.Need-width-width-requires
 width-requires c κs = search rules
 
-returns : tie.Need-returns
+returns : tie.Need-returns-then-width-count
 returns c =
-    let a = c.before.before.before.before.before.args in
-    let above = lt-ltb _ _ (rw c.before.width.ensures at c.if1.true) in
+    let a = c.args in
+    let above = lt-ltb _ _ (rw c.width-width.ensures at c.if-width-count.true) in
     λ v slot i.
     behind_refused (λ π x. load_rows π x a.count) (projection a.code) a.content v slot i _
-    (rw (c.before.before.before.content.given.1, above))
+    (rw (c.in-Written.is, above))
 
-draw-all-requires : tie.Need-draw-all-requires
+draw-all-requires : tie.Need-draw_all-load-requires
 draw-all-requires c κs =
-    let start = c.before.before.before.before.before in
-    (omega (arith, c.before.width.ensures, width_le start.args.code), c.if1.false)
+    let start = c.before.before.before in
+    (omega (arith, c.width-width.ensures, width_le start.args.code), c.if-width-count.false)
 
-returns-2 : tie.Need-returns-2
+returns-2 : tie.Need-returns-in-Bad
 returns-2 c =
-    let a = c.before.before.args in
+    let a = c.args in
     λ v slot i.
-    behind_refused (λ π x. load_rows π x a.count) (projection a.code) a.content v slot i _ (rw c.enum_told.given.1)
+    behind_refused (λ π x. load_rows π x a.count) (projection a.code) a.content v slot i _ (rw c.in-Bad.is)
 
-returns-3 : tie.Need-returns-3
+returns-3 : tie.Need-returns-in-Blank
 returns-3 c =
-    let a = c.before.before.args in
+    let a = c.args in
     λ v slot i.
-    behind_refused (λ π x. load_rows π x a.count) (projection a.code) a.content v slot i _ (rw c.enum_told2.given.1)
+    behind_refused (λ π x. load_rows π x a.count) (projection a.code) a.content v slot i _ (rw c.in-Blank.is)
 
-returns-4 : tie.Need-returns-4
+returns-4 : tie.Need-returns-else-width-count
 returns-4 c =
     let tested = c.before.before in
-    let a = tested.before.before.before.before.before.args in
-    let width = tested.before.width.ensures in
-    load_changed (projection a.code) a.content a.seed a.count _ _ _ tested.before.before.before.content.given.1
-    (rw width at tested.if1.false) (rw width at c.before.draw_all.ensures)
+    let a = tested.args in
+    let width = tested.width-width.ensures in
+    load_changed (projection a.code) a.content a.seed a.count _ _ _ tested.in-Written.is
+    (rw width at tested.if-width-count.false) (rw width at c.draw_all-load.ensures)
 
 pub load_content_spec : {M : Type 1} → statement M
 load_content_spec =

@@ -9,73 +9,73 @@ use Rattle.trace.proofs.layout.fit.Statement.{statement}
 use Rattle.trace.proofs.layout.fit.Tie as tie
 
 -- the function's entry, where the code is known
-abbrev start : tie.After-known-told → tie.Start
-start c = c.before.before.before.before.before
+abbrev start : tie.In-Code → tie.Start
+start c = c.before.before.before
 
 -- the code is known, and so is the edition
-is_code_lem : (c : tie.After-known-told) → is_code (start c).args.number ≡ true
-is_code_lem c = (code_known (start c).args.number _ (sym c.before.before.before.from_number.ensures ∙ c.before.code.given.1)).0
+is_code_lem : (c : tie.In-Code) → is_code (start c).args.number ≡ true
+is_code_lem c = (code_known (start c).args.number _ (sym c.from_number.ensures ∙ c.in-Code.is)).0
 
-edition : (c : tie.After-known-told) → (start c).args.edition ≡ 1
-edition c = c.before.before.before.before.if1.false
+edition : (c : tie.In-Code) → (start c).args.edition ≡ 1
+edition c = c.if-edition-ne-EDITION.false
 
 -- and the number of slots is fit
-is_count_lem : (c : tie.Else2) → is_count (start c.before.before).args.slots ≡ true
-is_count_lem c = sym c.before.is_count_lem.ensures ∙ not-false _ c.if2.false
+is_count_lem : (c : tie.Else-not-is_count) → is_count (start c.before.before).args.slots ≡ true
+is_count_lem c = sym c.is_count.ensures ∙ c.if-not-is_count.false
 
-returns : tie.Need-returns
-returns c = (unfit_edition _ _ _ _ _ c.if1.true, refl)
+returns : tie.Need-returns-then-edition-ne-EDITION
+returns c = (unfit_edition _ _ _ _ _ c.if-edition-ne-EDITION.true, refl)
 
-from-number-requires : tie.Need-from-number-requires
+from-number-requires : tie.Need-from_number-requires
 from-number-requires c κs = search rules
 
-enum_known_code : tie.Need-enum-known-code
+enum_known_code : tie.Need-enum_known-code
 enum_known_code c = search rules
 
-enum_told : tie.Need-enum-told
+enum_told : tie.Need-enum_told-1
 enum_told c = search rules
 
-returns-2 : tie.Need-returns-2
+returns-2 : tie.Need-returns-in_default
 returns-2 c =
     let not_code =
-    code_unknown c.before.before.before.before.args.number _ (sym c.before.before.from_number.ensures ∙ c.enum_told.given.1) in
-    (unfit_code _ _ _ _ _ c.before.before.before.if1.false not_code, refl)
+    code_unknown c.args.number _ (sym c.from_number.ensures ∙ c.in_default.is) in
+    (unfit_code _ _ _ _ _ c.if-edition-ne-EDITION.false not_code, refl)
 
-is-count-requires : tie.Need-is-count-requires
+is-count-requires : tie.Need-is_count-requires
 is-count-requires c κs = search rules
 
-returns-3 : tie.Need-returns-3
+returns-3 : tie.Need-returns-then-not-is_count
 returns-3 c =
     let known = c.before.before in
-    let not_count : is_count (start known).args.slots ≡ false = sym c.before.is_count_lem.ensures ∙ not-true _ c.if2.true in
+    let not_count : is_count (start known).args.slots ≡ false = sym c.is_count.ensures ∙ c.if-not-is_count.true in
     (unfit_count _ _ _ _ _ (edition known) (is_code_lem known) not_count, refl)
 
 distance-requires : tie.Need-distance-requires
 distance-requires c κs = count_few _ (is_count_lem c)
 
-returns-4 : tie.Need-returns-4
+returns-4 : tie.Need-returns-then-size-distance
 returns-4 c =
     let counted = c.before.before in
     let known = counted.before.before in
-    (unfit_distance _ _ _ _ _ (edition known) (is_code_lem known) (is_count_lem counted) (λ same. c.if3.true (same ∙ sym c.before.distance.ensures)), refl)
+    (unfit_distance _ _ _ _ _ (edition known) (is_code_lem known) (is_count_lem counted) (λ same. c.if-size-distance.true (same ∙ sym c.distance.ensures)), refl)
 
-returns-5 : tie.Need-returns-5
+returns-5 : tie.Need-returns-then-before-size
 returns-5 c =
     let counted = c.before.before.before in
     let known = counted.before.before in
-    let same = c.before.if3.false ∙ c.before.before.distance.ensures in
-    (unfit_beyond _ _ _ _ _ (edition known) (is_code_lem known) (is_count_lem counted) same c.if4.true, refl)
+    let same = c.if-size-distance.false ∙ c.distance.ensures in
+    (unfit_beyond _ _ _ _ _ (edition known) (is_code_lem known) (is_count_lem counted) same c.if-before-size.true, refl)
 
-returns-6 : tie.Need-returns-6
+returns-6 : tie.Need-returns
 returns-6 c =
     let counted = c.before.before.before in
     let known = counted.before.before in
-    let same = c.before.if3.false ∙ c.before.before.distance.ensures in
+    let same = c.if-size-distance.false ∙ c.distance.ensures in
     record {
-      fit = fits _ _ _ _ _ (edition known) (is_code_lem known) (is_count_lem counted) same c.if4.false;
+      fit = fits _ _ _ _ _ (edition known) (is_code_lem known) (is_count_lem counted) same c.if-before-size.false;
       start = refl;
       slots = refl;
-      code = (code_known (start known).args.number _ (sym known.before.before.before.from_number.ensures ∙ known.before.code.given.1)).1;
+      code = (code_known (start known).args.number _ (sym known.from_number.ensures ∙ known.in-Code.is)).1;
       inside = omega (arith, same);
       few = count_few (start known).args.slots (is_count_lem counted);
     }

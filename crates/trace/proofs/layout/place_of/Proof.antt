@@ -4,16 +4,16 @@ use Rattle.trace.specs.Layout.{place_from}
 use Rattle.trace.proofs.layout.place_of.Statement.{statement}
 use Rattle.trace.proofs.layout.place_of.Tie as tie
 
-mul_state : tie.Need-overflow-mul-state
+mul_state : tie.Need-overflow_mul-state
 mul_state c = search rules
 
-add_state : tie.Need-overflow-add-state
+add_state : tie.Need-overflow_add-state
 add_state c = search rules
 
-add_word : tie.Need-overflow-add-word
+add_word : tie.Need-overflow_add-word
 add_word c = search rules
 
-add_t5 : tie.Need-overflow-add-t5
+add_t5 : tie.Need-overflow_add-result
 add_t5 c = search rules
 
 returns : tie.Need-returns

@@ -10,25 +10,25 @@ distance-requires c κs = search rules
 store-requires : tie.Need-store-requires
 store-requires c κs = search rules
 
-add_store : tie.Need-overflow-add-store
+add_store : tie.Need-overflow_add-at
 add_store c = search rules
 
 store-requires-2 : tie.Need-store-requires-2
 store-requires-2 c κs = search rules
 
-add_store_2 : tie.Need-overflow-add-store-2
+add_store_2 : tie.Need-overflow_add-at-2
 add_store_2 c = search rules
 
 store-requires-3 : tie.Need-store-requires-3
 store-requires-3 c κs = search rules
 
-add_store_3 : tie.Need-overflow-add-store-3
+add_store_3 : tie.Need-overflow_add-at-3
 add_store_3 c = search rules
 
 store-requires-4 : tie.Need-store-requires-4
 store-requires-4 c κs = search rules
 
-same_length : tie.Need-same-length
+same_length : tie.Need-shape_of-b
 same_length c = search rules
 
 returns : tie.Need-returns
@@ -37,8 +37,8 @@ returns c =
     let second = third.before.before.before.before in
     let first = second.before.before.before.before in
     let start = first.before.before.before.before in
-    c.before.before.store4.ensures
-    ∙ rw (third.store3.ensures, second.store2.ensures, first.store.ensures, first.before.distance.ensures) (trailer_written _ _ _ _ start.requires.0)
+    c.store-4.ensures
+    ∙ rw (third.store-3.ensures, second.store-2.ensures, first.store.ensures, first.distance.ensures) (trailer_written _ _ _ _ start.requires.0)
 
 pub write_trailer_spec : {M : Type 1} → statement M
 write_trailer_spec =

@@ -4,13 +4,13 @@ use Rattle.codes.proofs.Laws.{power_fits}
 use Rattle.trace.proofs.slot.bit.Statement.{statement}
 use Rattle.trace.proofs.slot.bit.Tie as tie
 
-sub_result : tie.Need-overflow-sub-result
+sub_result : tie.Need-overflow_sub-result
 sub_result c = search rules
 
-sub_result_2 : tie.Need-overflow-sub-result-2
+sub_result_2 : tie.Need-overflow_sub-result-2
 sub_result_2 c = search rules
 
-shl_result : tie.Need-overflow-shl-result
+shl_result : tie.Need-overflow_shl-result
 shl_result c = search rules
 
 returns : tie.Need-returns

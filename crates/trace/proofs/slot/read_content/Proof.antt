@@ -4,29 +4,29 @@ use Rattle.std.proofs.Common.{rules}
 use Rattle.trace.proofs.slot.read_content.Statement.{statement}
 use Rattle.trace.proofs.slot.read_content.Tie as tie
 
-enum_told : tie.Need-enum-told
+enum_told : tie.Need-enum_told-1
 enum_told c = search rules
 
-enum_told_2 : tie.Need-enum-told-2
+enum_told_2 : tie.Need-enum_told-in-Bad
 enum_told_2 c = search rules
 
-enum_known_content : tie.Need-enum-known-content
+enum_known_content : tie.Need-enum_known-content
 enum_known_content c = search rules
 
-read-word-requires : tie.Need-read-word-requires
-read-word-requires c κs = rw c.before.content.given.1 at c.before.before.before.requires
+read-word-requires : tie.Need-read_word-requires
+read-word-requires c κs = rw c.in-Written.is at c.requires
 
-returns : tie.Need-returns
+returns : tie.Need-returns-in-Blank
 unfolding read_content
-returns c = rw c.enum_told.given.1
+returns c = rw c.in-Blank.is
 
-returns-2 : tie.Need-returns-2
+returns-2 : tie.Need-returns-in-Bad
 unfolding read_content
-returns-2 c = rw c.enum_told2.given.1
+returns-2 c = rw c.in-Bad.is
 
-returns-3 : tie.Need-returns-3
+returns-3 : tie.Need-returns-in-Written
 unfolding read_content
-returns-3 c = rw c.before.before.content.given.1 c.read_word.ensures
+returns-3 c = rw c.in-Written.is c.read_word.ensures
 
 pub read_content_spec : {M : Type 1} → statement M
 read_content_spec =

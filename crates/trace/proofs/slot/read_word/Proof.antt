@@ -5,33 +5,33 @@ use Rattle.std.proofs.Common.{rules}
 use Rattle.trace.proofs.slot.read_word.Statement.{statement}
 use Rattle.trace.proofs.slot.read_word.Tie as tie
 
-correct-requires : tie.Need-correct-requires
+correct-requires : tie.Need-correct-answer-requires
 correct-requires c κs = search rules
 
-enum_known_answer : tie.Need-enum-known-answer
+enum_known_answer : tie.Need-enum_known-answer
 enum_known_answer c = search rules
 
-enum_told : tie.Need-enum-told
+enum_told : tie.Need-enum_told-1
 enum_told c = search rules
 
-refusal-in-requires : tie.Need-refusal-in-requires
+refusal-in-requires : tie.Need-refusal_in-requires
 refusal-in-requires c κs = search rules
 
-returns : tie.Need-returns
+returns : tie.Need-returns-in_default
 returns c =
-    let called = c.before.before.before in
+    let called = c.before.before in
     let start = called.before in
-    let refused = c.before.enum_told.given.1 in
+    let refused = c.in_default.is in
     rw (rw refused at c.refusal_in.ensures)
     (read_refused (projection start.args.code) start.args.word start.args.marks start.requires.0 start.requires.1 _
-    (rw refused at called.correct.ensures))
+    (rw refused at called.correct-answer.ensures))
 
-returns-2 : tie.Need-returns-2
+returns-2 : tie.Need-returns
 returns-2 c =
-    let called = c.before.before.before.before.before in
+    let called = c.before.before.before in
     let start = called.before in
     read_near (projection start.args.code) start.args.word start.args.marks start.requires.0 start.requires.1 _
-    (rw c.before.before.before.answer.given.1 at called.correct.ensures)
+    (rw c.in-Near.is at called.correct-answer.ensures)
 
 pub read_word_spec : {M : Type 1} → statement M
 read_word_spec =

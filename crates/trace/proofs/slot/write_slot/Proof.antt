@@ -13,7 +13,7 @@ store-requires-2 c κs = search rules
 store-requires-3 : tie.Need-store-requires-3
 store-requires-3 c κs = search rules
 
-same_length : tie.Need-same-length
+same_length : tie.Need-shape_of-b
 same_length c = search rules
 
 returns : tie.Need-returns
@@ -21,7 +21,7 @@ unfolding store_at
 returns c =
     let second = c.before.before.before.before.before.before in
     let first = second.before.before.before.before in
-    c.before.before.store3.ensures ∙ rw (second.store2.ensures, first.store.ensures)
+    c.store-3.ensures ∙ rw (second.store-2.ensures, first.store.ensures)
 
 pub write_slot_spec : {M : Type 1} → statement M
 write_slot_spec =

@@ -7,13 +7,13 @@ use Rattle.codes.specs.Codes.{projection}
 use Rattle.codes.proofs.code.Code.encode.Statement.{statement}
 use Rattle.codes.proofs.code.Code.encode.Tie as tie
 
-message-limit-requires : tie.Need-message-limit-requires
+message-limit-requires : tie.Need-message_limit-requires
 message-limit-requires c κs = search rules
 
-returns : tie.Need-returns
+returns : tie.Need-returns-then-message_limit-message
 returns c =
-    let a = c.before.before.args in
-    rw (le-leb (2 ^ message_bits (projection a.self)) a.message (rw c.before.message_limit.ensures at c.if1.true))
+    let a = c.args in
+    rw (le-leb (2 ^ message_bits (projection a.self)) a.message (rw c.message_limit.ensures at c.if-message_limit-message.true))
 
 codeword-requires : tie.Need-codeword-requires
 codeword-requires c κs = search rules
@@ -21,13 +21,13 @@ codeword-requires c κs = search rules
 pack-requires : tie.Need-pack-requires
 pack-requires c κs = search rules
 
-returns-2 : tie.Need-returns-2
+returns-2 : tie.Need-returns
 unfolding encode
 returns-2 c =
-    let a = c.before.before.before.before.args in
+    let a = c.args in
     let π = projection a.self in
-    let fits = rw c.before.before.before.message_limit.ensures at c.before.before.if1.false in
-    rw (c.pack.ensures, c.before.codeword.ensures, lt-leb (2 ^ message_bits π) a.message fits)
+    let fits = rw c.message_limit.ensures at c.if-message_limit-message.false in
+    rw (c.pack.ensures, c.codeword.ensures, lt-leb (2 ^ message_bits π) a.message fits)
 
 pub encode_spec : {M : Type 1} → statement M
 encode_spec =

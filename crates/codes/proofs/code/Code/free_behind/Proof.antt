@@ -17,32 +17,32 @@ entry k i = count (drop (suc i) (projection k).free)
 table_fits : (k : Code) → T (below 10 (λ i. ltb (get_or (tabulated 10 0 (entry k)) i 0) 16)) → (i : ℕ) → i < 10 → get_or (tabulated 10 0 (entry k)) i 0 < 2 ^ 64
 table_fits k t i h = lt_of_lt_of_le (ltb→lt _ 16 (at_below 10 (λ i. ltb (get_or (tabulated 10 0 (entry k)) i 0) 16) t i h)) (lit≤ tt)
 
-returns : tie.Need-returns
+returns : tie.Need-returns-then-column-ge10
 returns c =
-    let code = c.before.args.self in
-    sym (ap count (drop_of_length-le (projection code).free {i = suc c.before.args.column} (omega (arith, size_le code, (systematic code).flags))))
+    let code = c.args.self in
+    sym (ap count (drop_of_length-le (projection code).free {i = suc c.args.column} (omega (arith, size_le code, (systematic code).flags))))
 
-array_read_result : tie.Need-array-read-result
+array_read_result : tie.Need-bounds-column
 array_read_result c = search rules
 
-cast_result : tie.Need-overflow-cast-result
-cast_result c = record { fits = table_fits O36 tt c.before.before.args.column c.before.if1.false }
+cast_result : tie.Need-overflow_cast-result
+cast_result c = record { fits = table_fits O36 tt c.args.column c.if-column-ge10.false }
 
-array_read_result_2 : tie.Need-array-read-result-2
+array_read_result_2 : tie.Need-bounds-column-in-O40
 array_read_result_2 c = search rules
 
-cast_result_2 : tie.Need-overflow-cast-result-2
-cast_result_2 c = record { fits = table_fits O40 tt c.before.before.args.column c.before.if1.false }
+cast_result_2 : tie.Need-overflow_cast-result-in-O40
+cast_result_2 c = record { fits = table_fits O40 tt c.args.column c.if-column-ge10.false }
 
-returns-2 : tie.Need-returns-2
+returns-2 : tie.Need-returns-in-O36
 returns-2 c =
-    let a = c.before.before.args in
-    of_table entry 0 0 1 a.column c.before.if1.false refl a.self c.match.keys1
+    let a = c.args in
+    of_table entry 0 0 1 a.column c.if-column-ge10.false refl a.self c.in-O36.in-O36-own.keys1
 
-returns-3 : tie.Need-returns-3
+returns-3 : tie.Need-returns-in-O40
 returns-3 c =
-    let a = c.before.before.args in
-    of_table entry 0 2 3 a.column c.before.if1.false refl a.self c.match.keys2
+    let a = c.args in
+    of_table entry 0 2 3 a.column c.if-column-ge10.false refl a.self c.in-O40.in-O40-own.keys2
 
 pub free_behind_spec : {M : Type 1} → statement M
 free_behind_spec = tie.close (tie.spec returns array_read_result cast_result array_read_result_2 cast_result_2 returns-2 returns-3)

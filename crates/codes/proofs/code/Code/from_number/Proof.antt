@@ -15,22 +15,22 @@ unknown n h1 h2 h3 h4 = go (leb 1 n) (leb n 4) refl refl
     go false true ea eb = refl
     go false false ea eb = refl
 
-returns : tie.Need-returns
-returns c = sym (ap code_found c.match.keys1)
+returns : tie.Need-returns-in-1
+returns c = sym (ap code_found c.in-1.is)
 
-returns-2 : tie.Need-returns-2
-returns-2 c = sym (ap code_found c.match.keys2)
+returns-2 : tie.Need-returns-in-2
+returns-2 c = sym (ap code_found c.in-2.is)
 
-returns-3 : tie.Need-returns-3
-returns-3 c = sym (ap code_found c.match.keys3)
+returns-3 : tie.Need-returns-in-3
+returns-3 c = sym (ap code_found c.in-3.is)
 
-returns-4 : tie.Need-returns-4
-returns-4 c = sym (ap code_found c.match.keys4)
+returns-4 : tie.Need-returns-in-4
+returns-4 c = sym (ap code_found c.in-4.is)
 
-returns-5 : tie.Need-returns-5
+returns-5 : tie.Need-returns-in_default
 returns-5 c =
-    let n = c.before.args.number in
-    let rest = c.match.rest in
+    let n = c.args.number in
+    let rest = c.in_default.in_default-own.rest in
     sym (found_by n (unknown n rest.0.0.0.1 rest.0.0.1 rest.0.1 rest.1))
 
 pub from_number_spec : {M : Type 1} → statement M

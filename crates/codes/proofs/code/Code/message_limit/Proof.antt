@@ -5,15 +5,15 @@ use Rattle.codes.proofs.Digits.{power_fits}
 use Rattle.codes.proofs.code.Code.message_limit.Statement.{statement}
 use Rattle.codes.proofs.code.Code.message_limit.Tie as tie
 
-message-bits-requires : tie.Need-message-bits-requires
+message-bits-requires : tie.Need-message_bits-requires
 message-bits-requires c κs = search rules
 
-shl_result : tie.Need-overflow-shl-result
-shl_result c = omega (arith, c.message_bits.ensures, bits_le c.before.args.self)
+shl_result : tie.Need-overflow_shl-result
+shl_result c = omega (arith, c.message_bits.ensures, bits_le c.args.self)
 
 returns : tie.Need-returns
 returns c =
-    power_fits c.message_bits.result (omega (arith, c.message_bits.ensures, bits_le c.before.args.self))
+    power_fits c.message_bits.result (omega (arith, c.message_bits.ensures, bits_le c.args.self))
     ∙ rw c.message_bits.ensures
 
 pub message_limit_spec : {M : Type 1} → statement M

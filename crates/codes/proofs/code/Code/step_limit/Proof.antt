@@ -5,11 +5,11 @@ use Rattle.codes.proofs.Codes.{of_tags}
 use Rattle.codes.proofs.code.Code.step_limit.Statement.{statement}
 use Rattle.codes.proofs.code.Code.step_limit.Tie as tie
 
-returns : tie.Need-returns
-returns c = of_tags (λ k. 128 ≡ step_limit (projection k)) 0 1 refl refl c.before.args.self c.match.keys1
+returns : tie.Need-returns-in-O36
+returns c = of_tags (λ k. 128 ≡ step_limit (projection k)) 0 1 refl refl c.args.self c.in-O36.in-O36-own.keys1
 
-returns-2 : tie.Need-returns-2
-returns-2 c = of_tags (λ k. 1024 ≡ step_limit (projection k)) 2 3 refl refl c.before.args.self c.match.keys2
+returns-2 : tie.Need-returns-in-O40
+returns-2 c = of_tags (λ k. 1024 ≡ step_limit (projection k)) 2 3 refl refl c.args.self c.in-O40.in-O40-own.keys2
 
 pub step_limit_spec : {M : Type 1} → statement M
 step_limit_spec = tie.close (tie.spec returns returns-2)

@@ -8,12 +8,12 @@ use Rattle.codes.proofs.code.Code.word_limit.Tie as tie
 width-requires : tie.Need-width-requires
 width-requires c κs = search rules
 
-shl_result : tie.Need-overflow-shl-result
-shl_result c = omega (arith, c.width.ensures, width_le c.before.args.self)
+shl_result : tie.Need-overflow_shl-result
+shl_result c = omega (arith, c.width.ensures, width_le c.args.self)
 
 returns : tie.Need-returns
 returns c =
-    power_fits c.width.result (omega (arith, c.width.ensures, width_le c.before.args.self))
+    power_fits c.width.result (omega (arith, c.width.ensures, width_le c.args.self))
     ∙ rw c.width.ensures
 
 pub word_limit_spec : {M : Type 1} → statement M

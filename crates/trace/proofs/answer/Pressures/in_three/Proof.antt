@@ -3,17 +3,17 @@ use Rattle.std.proofs.Common.{rules}
 use Rattle.trace.proofs.answer.Pressures.in_three.Statement.{statement}
 use Rattle.trace.proofs.answer.Pressures.in_three.Tie as tie
 
-enum_told : tie.Need-enum-told
+enum_told : tie.Need-enum_told-1
 enum_told c = search rules
 
-enum_known_self : tie.Need-enum-known-self
+enum_known_self : tie.Need-enum_known-self
 enum_known_self c = search rules
 
-returns : tie.Need-returns
-returns c = rw c.enum_told.given.1
+returns : tie.Need-returns-in-Absent
+returns c = rw c.in-Absent.is
 
-returns-2 : tie.Need-returns-2
-returns-2 c = rw c.before.self.given.1
+returns-2 : tie.Need-returns-in-Present
+returns-2 c = rw c.in-Present.is
 
 pub in_three_spec : {M : Type 1} → statement M
 in_three_spec = tie.close (tie.spec enum_told enum_known_self returns returns-2)

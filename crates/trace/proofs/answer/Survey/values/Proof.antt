@@ -18,49 +18,49 @@ padded : (slots sum : ℕ) (c : Counts) (p : Pressures)
 padded slots sum c Pressures.Absent = refl
 padded slots sum c (Pressures.Present smallest largest mean) = refl
 
-values-requires : tie.Need-values-requires
+values-requires : tie.Need-values-c-requires
 values-requires c κs = search rules
 
-in-three-requires : tie.Need-in-three-requires
+in-three-requires : tie.Need-in_three-p-requires
 in-three-requires c κs = search rules
 
 count-requires : tie.Need-count-requires
 count-requires c κs = search rules
 
-add_t10 : tie.Need-overflow-add-t10
+add_t10 : tie.Need-overflow_add-result
 add_t10 c = search rules
 
-array_read_t13 : tie.Need-array-read-t13
+array_read_t13 : tie.Need-bounds-c-0
 array_read_t13 c = search rules
 
-array_read_t16 : tie.Need-array-read-t16
+array_read_t16 : tie.Need-bounds-c-1
 array_read_t16 c = search rules
 
-array_read_t19 : tie.Need-array-read-t19
+array_read_t19 : tie.Need-bounds-c-2
 array_read_t19 c = search rules
 
-array_read_t22 : tie.Need-array-read-t22
+array_read_t22 : tie.Need-bounds-c-3
 array_read_t22 c = search rules
 
-array_read_t25 : tie.Need-array-read-t25
+array_read_t25 : tie.Need-bounds-c-4
 array_read_t25 c = search rules
 
-array_read_t28 : tie.Need-array-read-t28
+array_read_t28 : tie.Need-bounds-c-5
 array_read_t28 c = search rules
 
-array_read_t31 : tie.Need-array-read-t31
+array_read_t31 : tie.Need-bounds-p-0
 array_read_t31 c = search rules
 
-array_read_t34 : tie.Need-array-read-t34
+array_read_t34 : tie.Need-bounds-p-1
 array_read_t34 c = search rules
 
-array_read_t37 : tie.Need-array-read-t37
+array_read_t37 : tie.Need-bounds-p-2
 array_read_t37 c = search rules
 
 returns : tie.Need-returns
 returns c =
-    let s = c.before.before.before.before.args.self in
-    rw (c.count.ensures.0, c.before.in_three.ensures, c.before.before.values.ensures) (padded s.slots s.sum s.counts s.pressures)
+    let s = c.args.self in
+    rw (c.count.ensures.0, c.in_three-p.ensures, c.values-c.ensures) (padded s.slots s.sum s.counts s.pressures)
 
 pub values_spec : {M : Type 1} → statement M
 values_spec =

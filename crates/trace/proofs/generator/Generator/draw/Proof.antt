@@ -4,21 +4,21 @@ use Rattle.trace.specs.Load.{advance}
 use Rattle.trace.proofs.generator.Generator.draw.Statement.{statement}
 use Rattle.trace.proofs.generator.Generator.draw.Tie as tie
 
-wrapping-mul-requires : tie.Need-wrapping-mul-requires
+wrapping-mul-requires : tie.Need-wrapping_mul-requires
 wrapping-mul-requires c κs = search rules
 
-wrapping-add-u32-requires : tie.Need-wrapping-add-u32-requires
+wrapping-add-u32-requires : tie.Need-wrapping_add_u32-next-requires
 wrapping-add-u32-requires c κs = search rules
 
-cast_t7 : tie.Need-overflow-cast-t7
+cast_t7 : tie.Need-overflow_cast-result
 cast_t7 c = search rules
 
-rem_t8 : tie.Need-nonzero-rem-t8
+rem_t8 : tie.Need-nonzero_rem-result
 rem_t8 c = search rules
 
 returns : tie.Need-returns
 returns c =
-    let e : c.wrapping_add_u32.result ≡ advance c.before.before.args.self.number = omega arith in
+    let e : c.wrapping_add_u32-next.result ≡ advance c.args.self.number = omega arith in
     (e, cc)
 
 pub draw_spec : {M : Type 1} → statement M
