@@ -40,11 +40,10 @@ fn write(rt: &impl Print, code: u64, message: u64) -> io::Result<()> {
 // Writes each message that has a value in one free column and zeros elsewhere, in column order. The free columns' bits stand above the
 // top row's.
 fn write_free(rt: &impl Print, code: u64, value: u64, tops: u64, columns: u64) -> io::Result<()>
-    requires { (tops ≤ 9) × (columns ≤ 6) }
+    requires few_tops { tops ≤ 9 }
+    requires few_columns { columns ≤ 6 }
 {
-    let mut left = columns;
-    while 0 < left {
-        left -= 1;
+    for left in (0..columns).rev() {
         write(rt, code, value << (tops + 2 * left))?;
     }
     Ok(())
@@ -74,7 +73,9 @@ fn comes_back(code: u64, message: u64) -> bool {
 
 // How many of the messages below a limit, a stride apart, come back.
 fn back(code: u64, limit: u64, stride: u64) -> u64
-    requires { (limit ≤ 4194304) × (0 < stride) × (stride ≤ 64) }
+    requires small_limit { limit ≤ 4194304 }
+    requires some_stride { 0 < stride }
+    requires small_stride { stride ≤ 64 }
 {
     let mut message: u64 = 0;
     let mut count: u64 = 0;
@@ -94,7 +95,9 @@ fn counted(bit: bool) -> u64
 
 // Tries messages of a code, and writes how many come back.
 fn report(rt: &impl Print, code: u64, limit: u64, stride: u64) -> io::Result<()>
-    requires { (limit ≤ 4194304) × (0 < stride) × (stride ≤ 64) }
+    requires small_limit { limit ≤ 4194304 }
+    requires some_stride { 0 < stride }
+    requires small_stride { stride ≤ 64 }
 {
     named(rt, "code ", code)?;
     named(rt, ", messages below ", limit)?;

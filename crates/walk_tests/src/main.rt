@@ -29,11 +29,9 @@ fn columns(code: u64) -> usize {
 // Writes the columns' parities, the first column's first.
 fn parities(rt: &impl Print, mask: u64, columns: usize) -> io::Result<()> {
     let mut left = mask;
-    let mut i: usize = 0;
-    while i < columns {
+    for _ in 0..columns {
         named(rt, "", left % 2)?;
         left = left / 2;
-        i += 1;
     }
     Ok(())
 }
