@@ -14,10 +14,8 @@ fn show_list(rt: &impl Print, xs: &[u64]) -> io::Result<()> {
         return text(rt, " -");
     }
     named(rt, " ", xs[0])?;
-    let mut i = 1;
-    while i < xs.len() {
-        named(rt, ",", xs[i])?;
-        i += 1;
+    for x in &xs[1..] {
+        named(rt, ",", *x)?;
     }
     Ok(())
 }
@@ -55,8 +53,7 @@ fn single_puts(buffer: [u8; 64], start: u64, steps: &[u64], readings: &[u64]) ->
     requires { start ≤ 5 }
 {
     let mut b = buffer;
-    let mut i: usize = 0;
-    while i < 5 {
+    for i in 0..5 {
         if steps.len() <= i {
             return b;
         }
@@ -64,7 +61,6 @@ fn single_puts(buffer: [u8; 64], start: u64, steps: &[u64], readings: &[u64]) ->
             return b;
         }
         put(&mut b, start + i as u64, steps[i], readings[i]);
-        i += 1;
     }
     b
 }

@@ -25,14 +25,12 @@ fn loaded_word(buffer: [u8; 64], seed: u32, count: u64) -> u64 {
 fn position_between(width: u64, before: u64, after: u64) -> u64
     requires { width ≤ 64 }
 {
-    let mut position: u64 = 0;
-    while position < width {
+    for position in 0..width {
         if before ^ after == 1u64 << (width - 1 - position) {
             return position;
         }
-        position += 1;
     }
-    position
+    width
 }
 
 // That position, or that it is not one.
@@ -51,10 +49,8 @@ fn show_positions(rt: &impl Print, b: [u8; 64], width: u64, seed: u32, count: u6
     requires { width ≤ 64 }
 {
     let mut before = loaded_word(b, seed, 0);
-    let mut drawn: u64 = 0;
-    while drawn < count {
-        drawn += 1;
-        let after = loaded_word(b, seed, drawn);
+    for drawn in 0..count {
+        let after = loaded_word(b, seed, drawn + 1);
         show_position(rt, width, before, after)?;
         before = after;
     }

@@ -334,7 +334,9 @@ fn bad_slots(rt: &impl Print, w: [u8; 64], width: u64) -> io::Result<()>
 
 // Refusals 9 to 14, each also where later ones apply.
 fn slots(rt: &impl Print, code: u64, width: u64, steps: u64) -> io::Result<()>
-    requires { (0 < width) × (width ≤ 40) × (0 < steps) }
+    requires some_width { 0 < width }
+    requires small_width { width ≤ 40 }
+    requires some_steps { 0 < steps }
 {
     let b = make(rt, [255u8; 64], 64, code, 2)?;
     every_call(rt, b, 64, 2, LARGEST, LARGEST)?;
