@@ -63,10 +63,8 @@ fn show_near(rt: &impl Print, code: u64, c: Correction) -> io::Result<()> {
 fn show_counts(rt: &impl Print, numbers: &[u64], first: u64, last: u64) -> io::Result<()>
     requires { last < 256 }
 {
-    let mut n = first;
-    while n <= last {
+    for n in first..=last {
         named(rt, " ", count(numbers, n))?;
-        n += 1;
     }
     Ok(())
 }
@@ -110,7 +108,8 @@ fn show_part(
     from: usize,
     to: usize,
 ) -> io::Result<()>
-    requires { (from ≤ to) × (to ≤ 214) }
+    requires in_order { from ≤ to }
+    requires in_bounds { to ≤ 214 }
 {
     named(rt, name, count(&outcomes[from..to], REFUSED))?;
     named(rt, " of ", (to - from) as u64)
