@@ -20,17 +20,15 @@ fn number(rt: &impl Print, n: u64) -> io::Result<()> {
 
 // Copies a file to the front of an input, as far as it fits, and answers how many bytes it has there.
 fn copy(file: &[u8], input: &mut [u8]) -> usize {
-    let mut size = 0;
-    while size < file.len() && size < input.len() {
-        input[size] = file[size];
-        size += 1;
-    }
+    let size = file.len().min(input.len());
+    input[..size].copy_from_slice(&file[..size]);
     size
 }
 
 // Lists a file, and answers the length of its listing.
 fn list_into(file: &[u8], out: &mut [u8; lines::TEXT]) -> usize
-    ensures { (result ≤ length out.new) × (result ≡ length (take result out.new)) }
+    ensures in_bounds { result ≤ length out.new }
+    ensures listed { result ≡ length (take result out.new) }
 {
     let mut input = [0u8; lines::INPUT];
     let size = copy(file, &mut input);

@@ -58,7 +58,8 @@ fn play_held(
     buffer: &mut [u8],
     p: Progress,
 ) -> usize
-    requires { (length buffer.old ≡ longest) × (p.lent ≤ longest) }
+    requires whole_buffer { length buffer.old ≡ longest }
+    requires within_buffer { p.lent ≤ longest }
     ensures { result ≤ longest }
 {
     let held = p.held;
@@ -78,7 +79,8 @@ fn take(
     buffer: &mut [u8],
     p: Progress,
 ) -> Progress
-    requires { (length buffer.old ≡ longest) × (p.lent ≤ longest) }
+    requires whole_buffer { length buffer.old ≡ longest }
+    requires within_buffer { p.lent ≤ longest }
     ensures { result.lent ≤ longest }
 {
     let number = p.number;
@@ -105,7 +107,8 @@ fn take_all(
     buffer: &mut [u8],
     p: Progress,
 ) -> Progress
-    requires { (length buffer.old ≡ longest) × (p.lent ≤ longest) }
+    requires whole_buffer { length buffer.old ≡ longest }
+    requires within_buffer { p.lent ≤ longest }
     ensures { result.lent ≤ longest }
 {
     let mut progress = p;
@@ -123,7 +126,8 @@ fn take_input(
     buffer: &mut [u8],
     p: Progress,
 ) -> Progress
-    requires { (length buffer.old ≡ longest) × (p.lent ≤ longest) }
+    requires whole_buffer { length buffer.old ≡ longest }
+    requires within_buffer { p.lent ≤ longest }
     ensures { result.lent ≤ longest }
 {
     let mut input = [0u8; LONGEST];

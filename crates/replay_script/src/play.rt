@@ -87,7 +87,8 @@ fn lend_line(
     buffer: &mut [u8],
     lent: usize,
 ) -> usize
-    requires { (length buffer.old ≡ longest) × (lent ≤ longest) }
+    requires whole_buffer { length buffer.old ≡ longest }
+    requires within_buffer { lent ≤ longest }
     ensures { result ≤ longest }
 {
     let Lent::Bytes(n) = lend(line, buffer) else {
@@ -106,7 +107,8 @@ fn open(
     buffer: &mut [u8],
     lent: usize,
 ) -> usize
-    requires { (length buffer.old ≡ longest) × (lent ≤ longest) }
+    requires whole_buffer { length buffer.old ≡ longest }
+    requires within_buffer { lent ≤ longest }
     ensures { result ≤ longest }
 {
     let mut input = [0u8; INPUT];
@@ -165,7 +167,8 @@ pub(crate) fn play(
     buffer: &mut [u8],
     lent: usize,
 ) -> usize
-    requires { (length buffer.old ≡ longest) × (lent ≤ longest) }
+    requires whole_buffer { length buffer.old ≡ longest }
+    requires within_buffer { lent ≤ longest }
     ensures { result ≤ longest }
 {
     let part = argument(line);
