@@ -47,10 +47,8 @@ fn row_times(matrix: &[u8; 40], row: usize, values: [u64; 10]) -> u64
     requires { row < 4 }
 {
     let mut sum: u64 = 0;
-    let mut c: usize = 0;
-    while c < 10 {
+    for c in 0..10 {
         sum = sum ^ product(matrix[10 * row + c], values[c]);
-        c += 1;
     }
     sum
 }
@@ -68,9 +66,7 @@ fn is_free(code: u64, c: usize) -> bool {
 fn free_values(code: u64, message: u64) -> [u64; 10] {
     let mut values = [0u64; 10];
     let mut rest = message >> (columns(code) - 1);
-    let mut c = columns(code);
-    while 0 < c {
-        c -= 1;
+    for c in (0..columns(code)).rev() {
         if is_free(code, c) {
             values[c] = rest % 4;
             rest = rest / 4;
@@ -100,10 +96,8 @@ fn values(code: u64, message: u64) -> [u64; 10] {
     let matrix = matrix(code);
     let free = free_values(code, message);
     let mut values = free;
-    let mut row: usize = 0;
-    while row < 4 {
+    for row in 0..4 {
         values[other(code, row)] = row_times(&matrix, row, free);
-        row += 1;
     }
     values
 }
@@ -143,10 +137,8 @@ pub(crate) fn codeword(code: u64, message: u64) -> u64 {
     let values = values(code, message);
     let tops = top_row(code, p, message);
     let mut word: u64 = 0;
-    let mut c: usize = 0;
-    while c < m {
+    for c in 0..m {
         word = (word << 4) | column(p, values[c], (tops >> (m - 1 - c)) % 2);
-        c += 1;
     }
     word
 }

@@ -112,11 +112,9 @@ pub(crate) fn word_outcomes(
 ) -> Outcomes {
     let mut corrected = [0u64; WORDS];
     let mut decoded = [0u64; WORDS];
-    let mut j: usize = 0;
-    while j < WORDS {
+    for j in 0..WORDS {
         corrected[j] = correct_outcome(code, words[j], marks[j], found.near[j], found.kept[j]);
         decoded[j] = decode_outcome(code, words[j], found.equal[j]);
-        j += 1;
     }
     Outcomes {
         corrected: corrected,
@@ -127,14 +125,12 @@ pub(crate) fn word_outcomes(
 // The outcome of a read of each slot: the slot's group.
 pub(crate) fn read_outcomes(code: u64, trials: [Trial; LISTS], found: Found) -> [u64; ALL] {
     let mut outcomes = [0u64; ALL];
-    let mut j: usize = 0;
-    while j < ALL {
+    for j in 0..ALL {
         let near = found.near[SAMPLES + j];
         let kept = found.kept[SAMPLES + j];
         let slot = slot(trials, j);
         let agrees = read_agrees(read(trials, j), code, slot, near, kept);
         outcomes[j] = if agrees { slot.group(code) } else { DISAGREES };
-        j += 1;
     }
     outcomes
 }
@@ -144,10 +140,8 @@ pub(crate) fn count(numbers: &[u64], wanted: u64) -> u64
     ensures { result ≤ length numbers.now }
 {
     let mut count: u64 = 0;
-    let mut j: usize = 0;
-    while j < numbers.len() {
-        count = count + counted(numbers[j] == wanted);
-        j += 1;
+    for number in numbers {
+        count = count + counted(*number == wanted);
     }
     count
 }

@@ -26,7 +26,8 @@ pub(crate) fn below(drawn: u64, limit: u64) -> u64
 
 // A number below a limit, or one time in nine a number from the limit on.
 pub(crate) fn about(drawn: u64, limit: u64) -> u64
-    requires { (0 < limit) × (limit ≤ 4096) }
+    requires some_limit { 0 < limit }
+    requires small_limit { limit ≤ 4096 }
 {
     let number = below(drawn, limit + limit / 8);
     if number < limit {

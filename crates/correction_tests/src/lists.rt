@@ -112,12 +112,10 @@ fn wide(x: u8) -> u64 {
 
 // Whether the bytes of all slots are as they should be.
 fn bytes_agree(b: &[u8; BYTES], slots: [Slot; SLOTS]) -> bool {
-    let mut i: usize = 0;
-    while i < trace::SLOT * SLOTS {
+    for i in 0..trace::SLOT * SLOTS {
         if wide(b[i]) != slots[i / trace::SLOT].byte((i % trace::SLOT) as u64) {
             return false;
         }
-        i += 1;
     }
     true
 }
@@ -130,8 +128,7 @@ fn run(code: u64, list: usize, outcomes: &mut [u64; ALL_CALLS]) -> Trial
     let mut slots = [Slot::blank(); SLOTS];
     trace::make(&mut bytes, code, SLOTS as u64);
     let mut state = draw(code) + SEED + (list as u64);
-    let mut made: usize = 0;
-    while made < CALLS {
+    for made in 0..CALLS {
         let kind = draw(state);
         let place = draw(kind);
         let first = draw(place);
@@ -145,7 +142,6 @@ fn run(code: u64, list: usize, outcomes: &mut [u64; ALL_CALLS]) -> Trial
         outcomes[CALLS * list + made] = call_outcome(call, answered, due, agree);
         slots = changed;
         state = second;
-        made += 1;
     }
     Trial {
         bytes: bytes,
@@ -187,11 +183,9 @@ pub(crate) fn read(trials: [Trial; LISTS], j: usize) -> ReadAnswer
 
 // Puts the slots' words and marks behind the samples.
 pub(crate) fn append(trials: [Trial; LISTS], words: &mut [u64; WORDS], marks: &mut [u64; WORDS]) {
-    let mut j: usize = 0;
-    while j < ALL {
+    for j in 0..ALL {
         let slot = slot(trials, j);
         words[SAMPLES + j] = slot.word;
         marks[SAMPLES + j] = slot.marks;
-        j += 1;
     }
 }

@@ -17,10 +17,8 @@ pub(crate) struct Picks {
 // All positions in a row.
 fn all_positions() -> [u64; PLACES] {
     let mut row = [0u64; PLACES];
-    let mut place: usize = 0;
-    while place < PLACES {
+    for place in 0..PLACES {
         row[place] = place as u64;
-        place += 1;
     }
     row
 }
@@ -29,10 +27,8 @@ fn all_positions() -> [u64; PLACES] {
 fn take_out(row: &mut [u64; PLACES], taken: usize)
     requires { taken < 40 }
 {
-    let mut place = taken + 1;
-    while place < PLACES {
+    for place in taken + 1..PLACES {
         row[place - 1] = row[place];
-        place += 1;
     }
 }
 
@@ -41,15 +37,13 @@ pub(crate) fn pick_all(code: u64, seed: u32, count: u64) -> Picks {
     let width = width(code);
     let kept = width - least(count, width);
     let mut unpicked = all_positions();
-    let mut left = width;
     let mut positions: u64 = 0;
     let mut number = seed as u64;
-    while kept < left {
+    for left in (kept + 1..=width).rev() {
         number = draw(number);
         let place = below(number, left) as usize;
         positions = positions | bit(code, unpicked[place]);
         take_out(&mut unpicked, place);
-        left -= 1;
     }
     Picks {
         positions: positions,

@@ -38,14 +38,12 @@ fn some_ones(code: u64, word: u64, start: u64, count: u64) -> u64
 {
     let width = width(code);
     let mut bits: u64 = 0;
-    let mut i: u64 = 0;
-    while i < width {
+    for i in 0..width {
         bits = one_more(
             bits,
             word & (1u64 << remainder(start + 7 * i, width)),
             count,
         );
-        i += 1;
     }
     bits
 }
@@ -188,23 +186,19 @@ fn sample_at(code: u64, j: usize, state: u64) -> Sample
 // The samples and their marks.
 pub(crate) fn prepare(code: u64, words: &mut [u64; WORDS], marks: &mut [u64; WORDS]) {
     let mut state = another(code);
-    let mut j: usize = 0;
-    while j < SAMPLES {
+    for j in 0..SAMPLES {
         let sample = sample_at(code, j, state);
         words[j] = sample.word;
         marks[j] = sample.marks;
         state = another(state);
-        j += 1;
     }
 }
 
 // How many marks each word has.
 pub(crate) fn mark_counts(marks: &[u64; WORDS]) -> [u64; WORDS] {
     let mut counts = [0u64; WORDS];
-    let mut j: usize = 0;
-    while j < WORDS {
+    for j in 0..WORDS {
         counts[j] = ones(marks[j]);
-        j += 1;
     }
     counts
 }

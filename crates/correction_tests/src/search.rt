@@ -38,8 +38,7 @@ fn hold(
 )
     requires { message < 4194304 }
 {
-    let mut j: usize = 0;
-    while j < WORDS {
+    for j in 0..WORDS {
         if is_near(codeword, words[j], marks[j]) {
             near[j] = one_more(near[j]);
             kept[j] = message;
@@ -47,7 +46,6 @@ fn hold(
         if words[j] == codeword {
             equal[j] = message + 1;
         }
-        j += 1;
     }
 }
 
@@ -65,15 +63,12 @@ pub(crate) fn search(code: u64, words: &[u64; WORDS], marks: &[u64; WORDS]) -> F
     let mut kept = [0u64; WORDS];
     let mut equal = [0u64; WORDS];
     let mut otherwise: u64 = 0;
-    let messages = messages(code);
-    let mut message: u64 = 0;
-    while message < messages {
+    for message in 0..messages(code) {
         let codeword = codeword(code, message);
         hold(
             codeword, message, words, marks, &mut near, &mut kept, &mut equal,
         );
         otherwise = otherwise + counted(!encodes(code, message, codeword));
-        message += 1;
     }
     Found {
         near: near,

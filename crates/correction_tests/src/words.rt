@@ -9,28 +9,32 @@ pub(crate) const WIDEST: u64 = 40;
 
 // The columns of a code's words.
 pub(crate) fn columns(code: u64) -> usize
-    ensures { (9 ≤ result) × (result ≤ 10) }
+    ensures low { 9 ≤ result }
+    ensures high { result ≤ 10 }
 {
     if code <= 2 { 9 } else { 10 }
 }
 
 // The bits of a code's words.
 pub(crate) fn width(code: u64) -> u64
-    ensures { (36 ≤ result) × (result ≤ 40) }
+    ensures low { 36 ≤ result }
+    ensures high { result ≤ 40 }
 {
     if code <= 2 { 36 } else { WIDEST }
 }
 
 // The bits of a code's messages.
 pub(crate) fn message_bits(code: u64) -> u64
-    ensures { (19 ≤ result) × (result ≤ 22) }
+    ensures low { 19 ≤ result }
+    ensures high { result ≤ 22 }
 {
     if code <= 2 { 19 } else { 22 }
 }
 
 // The number of a code's steps.
 pub(crate) fn steps(code: u64) -> u64
-    ensures { (0 < result) × (result ≤ 1024) }
+    ensures low { 0 < result }
+    ensures high { result ≤ 1024 }
 {
     if code <= 2 { 128 } else { 1024 }
 }
@@ -62,7 +66,8 @@ pub(crate) fn bit(code: u64, position: u64) -> u64 {
 
 // The smaller of two numbers.
 pub(crate) fn least(a: u64, b: u64) -> u64
-    ensures { (result ≤ a) × (result ≤ b) }
+    ensures first { result ≤ a }
+    ensures second { result ≤ b }
 {
     if a < b { a } else { b }
 }

@@ -3,12 +3,12 @@
 
 use files::Input;
 
-fn main() {
+fn main(rt: HostRuntime) {
     let mut input = [0u8; lines::INPUT];
-    let Input::Bytes(size) = files::read_input(&mut input) else {
+    let Input::Bytes(size) = files::read_input(&rt, &mut input) else {
         return;
     };
     let mut text = [0u8; lines::TEXT];
     let end = lines::list(&input, size, &mut text);
-    files::print(&text[..end]);
+    files::print(&rt, &text[..end]);
 }

@@ -29,6 +29,8 @@ use files::Input;
 use lines::{LONGEST, Trouble};
 use play::{play, print_trouble};
 use script::{LINE, hold, is_whole};
+use std::io;
+use std::rt::Files;
 
 // How far a script is played.
 #[derive(Clone, Copy)]
@@ -50,27 +52,40 @@ fn following(number: u64) -> u64 {
 }
 
 // Plays the line that is held, where it is whole, and answers how many bytes are lent from then on.
-fn play_held(line: &[u8; LINE], buffer: &mut [u8], p: Progress) -> usize
-    requires { (length buffer.old ≡ longest) × (p.lent ≤ longest) }
+fn play_held(
+    rt: &(impl Files + Print + Eprint),
+    line: &[u8; LINE],
+    buffer: &mut [u8],
+    p: Progress,
+) -> usize
+    requires whole_buffer { length buffer.old ≡ longest }
+    requires within_buffer { p.lent ≤ longest }
     ensures { result ≤ longest }
 {
     let held = p.held;
     if !is_whole(held) {
-        print_trouble(p.number, Trouble::Unreadable, b"more than 200000 bytes");
+        print_trouble(rt, p.number, Trouble::Unreadable, b"more than 200000 bytes");
         return p.lent;
     }
     let bytes: &[u8] = line;
-    play(&bytes[..held], p.number, buffer, p.lent)
+    play(rt, &bytes[..held], p.number, buffer, p.lent)
 }
 
 // Takes the next byte of a script: it is held, or ends the line that is held, which is played.
-fn take(byte: u8, line: &mut [u8; LINE], buffer: &mut [u8], p: Progress) -> Progress
-    requires { (length buffer.old ≡ longest) × (p.lent ≤ longest) }
+fn take(
+    rt: &(impl Files + Print + Eprint),
+    byte: u8,
+    line: &mut [u8; LINE],
+    buffer: &mut [u8],
+    p: Progress,
+) -> Progress
+    requires whole_buffer { length buffer.old ≡ longest }
+    requires within_buffer { p.lent ≤ longest }
     ensures { result.lent ≤ longest }
 {
     let number = p.number;
     if byte == b'\n' {
-        let lent = play_held(line, buffer, p);
+        let lent = play_held(rt, line, buffer, p);
         return Progress {
             held: 0,
             number: following(number),
@@ -85,30 +100,40 @@ fn take(byte: u8, line: &mut [u8; LINE], buffer: &mut [u8], p: Progress) -> Prog
 }
 
 // Takes the bytes that a read gave.
-fn take_all(bytes: &[u8], line: &mut [u8; LINE], buffer: &mut [u8], p: Progress) -> Progress
-    requires { (length buffer.old ≡ longest) × (p.lent ≤ longest) }
+fn take_all(
+    rt: &(impl Files + Print + Eprint),
+    bytes: &[u8],
+    line: &mut [u8; LINE],
+    buffer: &mut [u8],
+    p: Progress,
+) -> Progress
+    requires whole_buffer { length buffer.old ≡ longest }
+    requires within_buffer { p.lent ≤ longest }
     ensures { result.lent ≤ longest }
 {
     let mut progress = p;
-    let mut i = 0;
-    while i < bytes.len() {
-        progress = take(bytes[i], line, buffer, progress);
-        i += 1;
+    for byte in bytes {
+        progress = take(rt, *byte, line, buffer, progress);
     }
     progress
 }
 
-// Takes standard input as it comes, until it ends or can't be read. A proved loop has to end, so this one counts its reads down from a number
-// that no run uses up.
-fn take_input(line: &mut [u8; LINE], buffer: &mut [u8], p: Progress) -> Progress
-    requires { (length buffer.old ≡ longest) × (p.lent ≤ longest) }
+// Takes standard input as it comes, until it ends or can't be read. A proved loop has to end, so this one counts its reads up to a number that
+// no run reaches.
+fn take_input(
+    rt: &(impl io::Input + Files + Print + Eprint),
+    line: &mut [u8; LINE],
+    buffer: &mut [u8],
+    p: Progress,
+) -> Progress
+    requires whole_buffer { length buffer.old ≡ longest }
+    requires within_buffer { p.lent ≤ longest }
     ensures { result.lent ≤ longest }
 {
     let mut input = [0u8; LONGEST];
     let mut progress = p;
-    let mut reads = u64::MAX;
-    while 0 < reads {
-        let Input::Bytes(n) = files::read_next(&mut input) else {
+    for _ in 0..u64::MAX {
+        let Input::Bytes(n) = files::read_next(rt, &mut input) else {
             // What is held is no whole line.
             progress.held = 0;
             return progress;
@@ -116,13 +141,12 @@ fn take_input(line: &mut [u8; LINE], buffer: &mut [u8], p: Progress) -> Progress
         if n == 0 {
             return progress;
         }
-        progress = take_all(&input[..n], line, buffer, progress);
-        reads -= 1;
+        progress = take_all(rt, &input[..n], line, buffer, progress);
     }
     progress
 }
 
-fn main() {
+fn main(rt: HostRuntime) {
     let mut line = [0u8; LINE];
     let mut buffer = [0u8; LONGEST];
     let first = Progress {
@@ -130,9 +154,9 @@ fn main() {
         number: 1,
         lent: 0,
     };
-    let last = take_input(&mut line, &mut buffer, first);
+    let last = take_input(&rt, &mut line, &mut buffer, first);
     // The last line may be without a newline.
     if 0 < last.held {
-        play_held(&line, &mut buffer, last);
+        play_held(&rt, &line, &mut buffer, last);
     }
 }

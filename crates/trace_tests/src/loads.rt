@@ -4,6 +4,7 @@ ghost use Rattle.std.specs.Prelude.{◌≤◌};
 
 use crate::last::word;
 use crate::show::{named, show_load, text};
+use std::io;
 
 // A trace of one slot, which holds message 0: its codeword has no ones.
 fn prepared(code: u64) -> [u8; 64] {
@@ -24,65 +25,61 @@ fn loaded_word(buffer: [u8; 64], seed: u32, count: u64) -> u64 {
 fn position_between(width: u64, before: u64, after: u64) -> u64
     requires { width ≤ 64 }
 {
-    let mut position: u64 = 0;
-    while position < width {
+    for position in 0..width {
         if before ^ after == 1u64 << (width - 1 - position) {
             return position;
         }
-        position += 1;
     }
-    position
+    width
 }
 
 // That position, or that it is not one.
-fn show_position(width: u64, before: u64, after: u64)
+fn show_position(rt: &impl Print, width: u64, before: u64, after: u64) -> io::Result<()>
     requires { width ≤ 64 }
 {
     let position = position_between(width, before, after);
     if position == width {
-        text(b" (not one position)");
-        return;
+        return text(rt, " (not one position)");
     }
-    named(b" ", position);
+    named(rt, " ", position)
 }
 
 // The positions of a load, in the order of their draws.
-fn show_positions(b: [u8; 64], width: u64, seed: u32, count: u64)
+fn show_positions(rt: &impl Print, b: [u8; 64], width: u64, seed: u32, count: u64) -> io::Result<()>
     requires { width ≤ 64 }
 {
     let mut before = loaded_word(b, seed, 0);
-    let mut drawn: u64 = 0;
-    while drawn < count {
-        drawn += 1;
-        let after = loaded_word(b, seed, drawn);
-        show_position(width, before, after);
+    for drawn in 0..count {
+        let after = loaded_word(b, seed, drawn + 1);
+        show_position(rt, width, before, after)?;
         before = after;
     }
+    Ok(())
 }
 
 // A load on a line.
-fn play(code: u64, width: u64, seed: u32, count: u64)
+fn play(rt: &impl Print, code: u64, width: u64, seed: u32, count: u64) -> io::Result<()>
     requires { width ≤ 64 }
 {
     let mut b = prepared(code);
-    named(b"width ", width);
-    named(b" seed ", seed as u64);
-    named(b" k ", count);
-    text(b": positions");
+    named(rt, "width ", width)?;
+    named(rt, " seed ", seed as u64)?;
+    named(rt, " k ", count)?;
+    text(rt, ": positions")?;
     if count == 0 {
-        text(b" (none)");
+        text(rt, " (none)")?;
     }
-    show_positions(b, width, seed, count);
-    show_load(b";", trace::load(&mut b, 0, seed, count));
-    text(b"\n");
+    show_positions(rt, b, width, seed, count)?;
+    show_load(rt, ";", trace::load(&mut b, 0, seed, count))?;
+    text(rt, "\n")
 }
 
 // The worked loads at the widths that codes have, with each code.
-pub(crate) fn play_worked() {
-    play(1, 36, 0, 5);
-    play(2, 36, 1, 5);
-    play(3, 40, 1, 5);
-    play(4, 40, 12345, 3);
-    play(1, 36, 4294967295, 4);
-    play(3, 40, 2026, 0);
+pub(crate) fn play_worked(rt: &impl Print) -> io::Result<()> {
+    play(rt, 1, 36, 0, 5)?;
+    play(rt, 2, 36, 1, 5)?;
+    play(rt, 3, 40, 1, 5)?;
+    play(rt, 4, 40, 12345, 3)?;
+    play(rt, 1, 36, 4294967295, 4)?;
+    play(rt, 3, 40, 2026, 0)
 }
