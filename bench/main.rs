@@ -585,5 +585,5 @@ fn main() {
     let flags = option_env!("BENCH_FLAGS").unwrap_or("unknown flags");
     println!("plain, bytes: {rustc}, {flags}, default target");
     let kit = option_env!("BENCH_KIT").unwrap_or("a kit of unknown version");
-    println!("library: rt staticlib of {kit}, -O3, x86-64 without extensions");
+    println!("library: rt lib --cpu=x86-64 of {kit}, x86-64 without extensions");
 }
