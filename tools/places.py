@@ -36,7 +36,8 @@ def functions(text):
         signature = text[end:].split("\n", 1)[0]
         opening = text.find(" {\n", end) if signature.endswith(" {") else text.find(f"\n{indent}{{\n", end)
         closing = text.find(f"\n{indent}}}", opening)
-        yield name, text[start : end - 1], text[end:opening], text[opening:closing].split("{", 1)[1]
+        if 0 <= opening < closing:
+            yield name, text[start : end - 1], text[end:opening], text[opening:closing].split("{", 1)[1]
 
 
 def parameters(text):

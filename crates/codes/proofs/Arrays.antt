@@ -2,9 +2,10 @@
 -- The columns of a number are its digits in base 16, so one more is the next quotient's remainder. A number is shifted so that its lowest m
 -- columns are the first m of ten; bits beyond the ten are no digits of theirs. The multiples of the matrix's columns stand four by four in the
 -- order of the columns and of the symbols, and as four bytes of one number for each column, which is a test of all of them.
-use Rattle.std.proofs.Common.{◌≡◌, ℕ, zero, suc, ◌+◌, ◌-◌, ◌*◌, ◌/◌, ◌%◌, ◌^◌, ◌<◌, ◌≤◌, Bool, T, List, [], ◌∷◌, map, length, get_or, take, drop, set, sym, refl, ap, ◌∙◌, ap₂, add-zero, pow-suc, zero-add, arith, drop-cons, get_or-set_same, drop-set-lt, lt-length-set, pow-add}
+use Rattle.std.proofs.Common.{◌≡◌, ℕ, zero, suc, ◌+◌, ◌-◌, ◌*◌, ◌/◌, ◌%◌, ◌^◌, ◌<◌, ◌≤◌, Bool, T, List, [], ◌∷◌, map, length, get_or, take, drop, set, sym, refl, ap, ◌∙◌, ap₂, add-zero, pow-suc, zero-add, arith, pow-add}
 use native.Mathlib.Nat.{div-div-eq-div-mul, mul-div-mul_right}
 use lib.Pow.{mod-mod-pow}
+use Rattle.std.proofs.lemmas.List.{drop-set, take-map}
 use Rattle.symbols.specs.Symbol.{Symbol, s0, s1, s2, s3, symbol_of}
 use Rattle.symbols.specs.Column.{column_of}
 use Rattle.symbols.proofs.Claims.{numbers}
@@ -16,16 +17,11 @@ use Rattle.codes.specs.ContractsOfWalk.{multiple, Multiples}
 use Rattle.codes.specs.ContractsOfSearch.{all_multiples}
 use Rattle.codes.proofs.Digits.{Fit, columns_fit, place_pos, digits_remainder, pow_mul}
 
--- an array, from the place where an element was stored
-drop_set : (l : List ℕ) (j v : ℕ) → j < length l → drop j (set l j v) ≡ v ∷ drop (suc j) l
-drop_set l j v h =
-    drop-cons (set l j v) j 0 (lt-length-set l j v h) ∙ ap₂ ◌∷◌ (get_or-set_same l j v 0 h) (drop-set-lt (suc j) l j v (omega arith))
-
 -- the columns of a number, stored from the last to the first: one column more, and what is then left of the number
-pub unpack_step : (l : List ℕ) (j k n : ℕ) → j < length l → map column_of (drop (suc j) l) ≡ digits columns k n →
+pub unpack_step : (l : List ℕ) (j k n : ℕ) → j < length l → map column_of (drop (j + 1) l) ≡ digits columns k n →
     map column_of (drop j (set l j (n / 16 ^ k % 16))) ≡ digits columns (suc k) n
 unpack_step l j k n h e =
-    rw (drop_set l j (n / 16 ^ k % 16) h) (ap₂ ◌∷◌ (numbers.columns.modulo (n / 16 ^ k)) e)
+    rw (drop-set l j (n / 16 ^ k % 16) h) (ap₂ ◌∷◌ (numbers.columns.modulo (n / 16 ^ k)) e)
 
 pub next_quotient : (k n : ℕ) → n / 16 ^ k / 16 ≡ n / 16 ^ suc k
 next_quotient k n = rw (div-div-eq-div-mul n (16 ^ k) 16, pow-suc 16 k)
@@ -39,12 +35,6 @@ digits_shifted d fit (suc m) k n =
     rw (pow-add d.base m k) (mul-div-mul_right n (d.base ^ m) (place_pos d fit k)) in
     rw more (ap₂ ◌∷◌ (ap d.lowest first) (digits_shifted d fit m k n))
 
--- the first of an array's columns
-take_map : {A B : Type 0} (f : A → B) (m : ℕ) (l : List A) → map f (take m l) ≡ take m (map f l)
-take_map f zero l = refl
-take_map f (suc m) [] = refl
-take_map f (suc m) (x ∷ l) = ap (λ l. f x ∷ l) (take_map f m l)
-
 -- a number's lowest m columns, shifted to be the first m of ten
 pub aligned : (l : List ℕ) (m n : ℕ) → m ≤ 10 → map column_of l ≡ digits columns 10 ((n * 2 ^ (4 * (10 - m))) % 2 ^ 64) →
     map column_of (take m l) ≡ digits columns m n
@@ -55,7 +45,7 @@ aligned l m n hm e =
     let low : digits columns 10 (shifted % 2 ^ 64) ≡ digits columns 10 shifted =
     sym (digits_remainder columns columns_fit 10 (shifted % 2 ^ 64)) ∙ ap (digits columns 10) (mod-mod-pow shifted 24 40)
     ∙ digits_remainder columns columns_fit 10 shifted in
-    take_map column_of m l ∙ ap (take m) (e ∙ low ∙ ap₂ (digits columns) ten power) ∙ digits_shifted columns columns_fit m (10 - m) n
+    sym (take-map column_of m l) ∙ ap (take m) (e ∙ low ∙ ap₂ (digits columns) ten power) ∙ digits_shifted columns columns_fit m (10 - m) n
 
 -- the table of the matrix's columns times each symbol
 pub length_multiples : (H : List (List Symbol)) → length (all_multiples H) ≡ 4 * length H

@@ -1,39 +1,14 @@
--- The four codes: what a `match` says of a code, the sizes that numbers have to fit, and what the theory asks of each code.
--- A `match` knows its arms by the codes' tags, 0 and 1 at 36 bits, 2 and 3 at 40. What is asked of a code is a test of its matrix, whatever
--- the top rule, so each is computed once for nine columns and once for ten.
-use Rattle.std.proofs.Common.{◌≡◌, ℕ, ◌<◌, ◌≤◌, [], ◌∷◌, get_or, refl, ◌∙◌, subst, ⊎_elim, arith, lit<, lit≤}
-use types.Run.{OneOf}
-use denote.Enum.Declared.{tag_of}
+-- The four codes: the sizes that numbers have to fit, and what the theory asks of each code.
+-- What is asked of a code is a test of its matrix, whatever the top rule, so each is computed once for nine columns and once for ten.
+use Rattle.std.proofs.Common.{ℕ, ◌<◌, ◌≤◌, refl, arith, lit<, lit≤}
 use Rattle.codes.specs.declared.code.Code.{Code}
 use Rattle.codes.specs.declared.code.Code.TheVariants.{O36, E36, O40, E40}
 use Rattle.codes.specs.Projection.{Projection, TopRule, rule_o, rule_e, nine, ten, size, width, message_bits}
-use Rattle.codes.specs.Codes.{projection, codes}
+use Rattle.codes.specs.Codes.{projection}
 use Rattle.codes.specs.ContractsOfWalk.{Multiples}
-use Rattle.codes.specs.contracts.code.Code.{the_type}
-use Rattle.codes.proofs.Arrays.{multiples_of, are_multiples, tabulated, table_at}
+use Rattle.codes.proofs.Arrays.{multiples_of, are_multiples}
 use Rattle.codes.proofs.Placing.{Systematic}
 use Rattle.codes.proofs.Distance.{Apart, apart_by_length}
-
--- a code is the one at its tag in the list, so what holds of the codes at two tags holds of a code that has one of the two
-tagged : (c : Code) → get_or codes (tag_of the_type c) O36 ≡ c
-tagged O36 = refl
-tagged E36 = refl
-tagged O40 = refl
-tagged E40 = refl
-
-pub of_tags : (P : Code → Type 0) (i j : ℕ) → P (get_or codes i O36) → P (get_or codes j O36) →
-    (c : Code) → OneOf (i ∷ j ∷ []) (tag_of the_type c) → P c
-of_tags P i j a b c k = ⊎_elim (λ e. subst P (there e) a) (λ e. subst P (there e) b) k
-  where
-    there : {n : ℕ} → tag_of the_type c ≡ n → get_or codes n O36 ≡ c
-    there e = rw (← e) (tagged c)
-
--- a table of f at ten columns, which is alike for two codes
-pub of_table : {A : Type 0} (f : Code → ℕ → A) (d : A) (i j n : ℕ) → n < 10 → f (get_or codes i O36) n ≡ f (get_or codes j O36) n →
-    (c : Code) → OneOf (i ∷ j ∷ []) (tag_of the_type c) → get_or (tabulated 10 0 (f (get_or codes i O36))) n d ≡ f c n
-of_table f d i j n h alike =
-    let e = table_at 10 (f (get_or codes i O36)) d n h in
-    of_tags (λ c. get_or (tabulated 10 0 (f (get_or codes i O36))) n d ≡ f c n) i j e (e ∙ alike)
 
 -- what holds of both matrices, whatever the rule, holds of each code
 by_length : (P : Projection → Type 0) → ((r : TopRule) → P (nine r)) → ((r : TopRule) → P (ten r)) → (c : Code) → P (projection c)

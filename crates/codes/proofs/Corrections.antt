@@ -11,7 +11,6 @@ use lib.Bits.{bit_xor, bit_or, xor_zero_r, or_zero_r}
 use Rattle.symbols.specs.Column.{Column}
 use Rattle.symbols.proofs.Claims.{columns_add}
 use Rattle.codes.specs.declared.answer.Correction.{Correction}
-use Rattle.codes.specs.Answer.{refused}
 use Rattle.codes.specs.Projection.{Projection, width, message_bits}
 use Rattle.codes.specs.Word.{word, is_codeword, ◌⊞◌, distance}
 use Rattle.codes.specs.Message.{encode, decode}
@@ -166,12 +165,6 @@ pub wrong_inverted : (π : Projection) (m x f : ℕ) → wrong π (bit_xor x f) 
 wrong_inverted π m x f =
     rw (word_xor π x f, word_twice (word π x) (word π f) (same_length π x f))
 
--- what a call answers: the rows of its refusals, then mending
-pub correcting_wide : (π : Projection) (w m : ℕ) → 2 ^ width π ≤ w → correcting π w m ≡ refused 3
-correcting_wide π w m h = rw (le-leb (2 ^ width π) w h)
-
-pub correcting_wide_marks : (π : Projection) (w m : ℕ) → w < 2 ^ width π → 2 ^ width π ≤ m → correcting π w m ≡ refused 3
-correcting_wide_marks π w m l h = rw (lt-leb (2 ^ width π) w l, le-leb (2 ^ width π) m h)
-
+-- what a call answers where no row of the widths is met
 pub correcting_fits : (π : Projection) (w m : ℕ) → w < 2 ^ width π → m < 2 ^ width π → correcting π w m ≡ correction_answer (correct π w m)
 correcting_fits π w m l h = rw (lt-leb (2 ^ width π) w l, lt-leb (2 ^ width π) m h)

@@ -1,12 +1,12 @@
 -- What the layers above may cite: the limits of each code, its number, word calls whose numbers fit, and what mending finds.
 -- A message's codeword with positions f inverted is a word in which that codeword is wrong just where f is not marked.
+use Rattle.std.specs.Prelude.{Ok, Err}
 use Rattle.std.proofs.Common.{◌≡◌, ℕ, ◌+◌, ◌*◌, ◌^◌, ◌<◌, ◌≤◌, Bool, true, false, cond, leb, ◌↔◌, [], ◌∷◌, sym, refl, arith}
 use mathlib.Core.Option.{Option, none, some}
 use lib.Bits.{bit_xor}
 use borrow.Author.Tests.{lt-leb}
 use Rattle.codes.specs.declared.code.Code.{Code}
 use Rattle.codes.specs.declared.code.Code.TheVariants.{O36, E36, O40, E40}
-use Rattle.codes.specs.declared.code.CodeFound.{CodeFound}
 use Rattle.codes.specs.declared.answer.Correction.{Correction}
 use Rattle.codes.specs.declared.answer.Refusal.{Refusal}
 use Rattle.codes.specs.declared.answer.Refusal.TheVariants.{UnknownCode}
@@ -90,19 +90,18 @@ code_iff n = and_iff (leb 1 n) (leb n 4) (leb_iff 1 n) (leb_iff n 4)
 pub code_lt : (n : ℕ) → is_code n ≡ true → n < 256
 code_lt n e = let few = ((code_iff n).0 e).1 in omega arith
 
-pub code_known : (n : ℕ) (c : Code) → code_found n ≡ CodeFound.Code c → (is_code n ≡ true) × (c ≡ code_of n)
+pub code_known : (n : ℕ) (c : Code) → code_found n ≡ Ok c → (is_code n ≡ true) × (c ≡ code_of n)
 code_known n c e = go (is_code n) refl e
   where
-    go : (t : Bool) → is_code n ≡ t → cond t (CodeFound.Code (code_of n)) (CodeFound.Refused UnknownCode) ≡ CodeFound.Code c
-        → (is_code n ≡ true) × (c ≡ code_of n)
+    go : (t : Bool) → is_code n ≡ t → cond t (Ok (code_of n)) (Err UnknownCode) ≡ Ok c → (is_code n ≡ true) × (c ≡ code_of n)
     go true t e = (t, cc)
-    go false t e = let z : ◌≡◌ {A = ℕ} 0 1 = cc in absurd (omega arith)
+    go false t e = absurd (cc)
 
-pub code_unknown : (n : ℕ) (r : Refusal) → code_found n ≡ CodeFound.Refused r → is_code n ≡ false
+pub code_unknown : (n : ℕ) (r : Refusal) → code_found n ≡ Err r → is_code n ≡ false
 code_unknown n r e = go (is_code n) refl e
   where
-    go : (t : Bool) → is_code n ≡ t → cond t (CodeFound.Code (code_of n)) (CodeFound.Refused UnknownCode) ≡ CodeFound.Refused r → is_code n ≡ false
-    go true t e = let z : ◌≡◌ {A = ℕ} 0 1 = cc in absurd (omega arith)
+    go : (t : Bool) → is_code n ≡ t → cond t (Ok (code_of n)) (Err UnknownCode) ≡ Err r → is_code n ≡ false
+    go true t e = absurd (cc)
     go false t e = t
 
 -- ---- word calls whose numbers fit

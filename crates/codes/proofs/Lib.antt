@@ -34,11 +34,9 @@ mod Placing
 mod Encoding
 -- the same of messages and words as numbers
 mod Messages
--- ---- correction, answers, the four codes
+-- ---- correction, the four codes
 -- mending finds the near codeword, or none exactly where none is near
 mod Corrections
--- a call under a number, by the code that the number names
-mod Answers
 -- the four codes have what the theory asks of a code
 mod Codes
 -- ---- private steps: one walk over a word's columns

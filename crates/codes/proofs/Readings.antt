@@ -2,15 +2,16 @@
 -- At each step the number so far, followed by the digits of the columns that are left, is the whole; the whole is a message of the code, so
 -- the number so far is below the code's limit. Columns behind the last change nothing: they are not free and have no top bit in a message,
 -- and no digit is left there. So the steps may go on to the end of the array.
-use Rattle.std.proofs.Common.{◌≡◌, ℕ, zero, suc, ◌+◌, ◌*◌, ◌^◌, ◌<◌, ◌≤◌, Bool, true, false, cond, ltb, List, [], ◌∷◌, map, length, get_or, take, drop, sym, refl, ap, lt_of_le_of_lt, arith, drop_of_length-le, drop-cons, get_or-take, ltb-false, ltb-true, le-ltb, lt-ltb}
+use Rattle.std.proofs.Common.{◌≡◌, ℕ, zero, suc, ◌+◌, ◌*◌, ◌^◌, ◌<◌, ◌≤◌, Bool, true, false, cond, ltb, List, [], ◌∷◌, map, length, get_or, take, drop, refl, lt_of_le_of_lt, lt_of_lt_of_le, pow_mono, inl, inr, arith, drop_of_length-le, drop-cons, get_or-take, le-ltb, lt-ltb}
+use Rattle.std.proofs.lemmas.Bool.{cases_lt}
 use lib.ListN.{get_or-eq_default, get_or-map, length-map}
 use Rattle.symbols.specs.Symbol.{Symbol, symbol_number}
-use Rattle.symbols.specs.Column.{Column, value, parity, top, one, column_of}
+use Rattle.symbols.specs.Column.{Column, value, top, one, column_of}
 use Rattle.codes.specs.Digits.{bits, symbols}
 use Rattle.codes.specs.Projection.{Projection, size, top_bits, message_bits}
 use Rattle.codes.specs.Message.{chosen, first_parity, but_last, message_in, message_number}
 use Rattle.codes.specs.ContractsOfWalk.{held, high_part}
-use Rattle.codes.proofs.Digits.{bits_fit}
+use Rattle.codes.proofs.Digits.{symbols_fit, bits_fit}
 use Rattle.codes.proofs.Horner.{followed, followed_next, followed_le}
 use Rattle.codes.proofs.Placing.{Systematic}
 use Rattle.codes.proofs.Encoding.{sized}
@@ -30,26 +31,12 @@ but_last_from (b ∷ []) i h = absurd (omega arith)
 but_last_from (b ∷ (c ∷ l)) zero h = refl
 but_last_from (b ∷ (c ∷ l)) (suc i) h = but_last_from (c ∷ l) i (omega arith)
 
--- by whether place i is one of the first m
-before_or_behind : {P : Type 0} (i m : ℕ) → (i < m → P) → (m ≤ i → P) → P
-before_or_behind {P} i m before behind = go (ltb i m) refl
-  where
-    go : (t : Bool) → ltb i m ≡ t → P
-    go true e = before (ltb-true i m e)
-    go false e = behind (ltb-false i m e)
-
 module _ (π : Projection) (sys : Systematic π) (a : List ℕ) (room : size π ≤ length a) where
   abbrev cs : List Column
   cs = held π a
 
   long : length (held π a) ≡ size π
   long = length_held π a room
-
-  -- the first column of the array is the word's, and so is its parity
-  pub first_parity_held : parity (column_of (get_or a 0 0)) ≡ first_parity (held π a)
-  first_parity_held =
-      let first : held π a ≡ column_of (get_or a 0 0) ∷ drop 1 (held π a) = held_from π a room 0 sys.some in
-      sym (ap first_parity first)
 
   -- before the first column
   pub read_start : (odd : Bool) → odd ≡ first_parity (held π a) →
@@ -66,11 +53,12 @@ module _ (π : Projection) (sys : Systematic π) (a : List ℕ) (room : size π 
       ≡ followed symbols (cond (get_or π.free i false) (n * 4 + symbol_number (value (column_of (get_or a i 0)))) n)
       (chosen (drop (suc i) π.free) (map value (drop (suc i) (held π a))))
   read_value i n =
-      before_or_behind i (size π)
-      (λ h.
-      rw (drop-cons π.free i false (omega (arith, sys.flags)), held_from π a room i h)
-      (chosen_next n (get_or π.free i false) (drop (suc i) π.free) (value (column_of (get_or a i 0))) (map value (drop (suc i) cs))))
-      (λ h. rw (no_value i h, no_value (suc i) (omega arith), get_or-eq_default π.free false {n = i} (omega (arith, sys.flags))))
+      elim (cases_lt i (size π)) [
+        | inl h ↦
+            rw (drop-cons π.free i false (omega (arith, sys.flags)), held_from π a room i h)
+            (chosen_next n (get_or π.free i false) (drop (suc i) π.free) (value (column_of (get_or a i 0))) (map value (drop (suc i) cs)))
+        | inr h ↦ rw (no_value i h, no_value (suc i) (omega arith), get_or-eq_default π.free false {n = i} (omega (arith, sys.flags)))
+      ]
 
   -- the whole, before the top bits are read
   pub read_tops : followed bits (high_part π (held π a)) (but_last (map top (held π a))) ≡ message_number π (message_in π (held π a))
@@ -85,17 +73,18 @@ module _ (π : Projection) (sys : Systematic π) (a : List ℕ) (room : size π 
       followed bits n (drop i (but_last (map top (held π a))))
       ≡ followed bits (cond (ltb i (top_bits π)) (n * 2 + one (top (column_of (get_or a i 0)))) n) (drop (suc i) (but_last (map top (held π a))))
   read_top i n =
-      before_or_behind i (top_bits π)
-      (λ h.
-      rw (
-        lt-ltb i (top_bits π) h,
-        but_last_from (map top cs) i (omega (arith, long, length-map cs top)),
-        get_or-map top cs i (column_of 0),
-        get_or-map column_of (take (size π) a) i 0,
-        get_or-take (size π) a i 0 (omega arith),
-      )
-      (followed_next bits n (top (column_of (get_or a i 0))) (drop (suc i) (but_last (map top cs)))))
-      (λ h. rw (le-ltb i (top_bits π) h, no_top i h, no_top (suc i) (omega arith)))
+      elim (cases_lt i (top_bits π)) [
+        | inl h ↦
+            rw (
+              lt-ltb i (top_bits π) h,
+              but_last_from (map top cs) i (omega (arith, long, length-map cs top)),
+              get_or-map top cs i (column_of 0),
+              get_or-map column_of (take (size π) a) i 0,
+              get_or-take (size π) a i 0 (omega arith),
+            )
+            (followed_next bits n (top (column_of (get_or a i 0))) (drop (suc i) (but_last (map top cs))))
+        | inr h ↦ rw (le-ltb i (top_bits π) h, no_top i h, no_top (suc i) (omega arith))
+      ]
 
   -- the whole, and its high part, are below the code's limit
   pub message_bounded : message_number π (message_in π (held π a)) < 2 ^ message_bits π
@@ -104,3 +93,16 @@ module _ (π : Projection) (sys : Systematic π) (a : List ℕ) (room : size π 
   pub high_bounded : high_part π (held π a) < 2 ^ message_bits π
   high_bounded =
       lt_of_le_of_lt (rw (read_tops) at (followed_le bits bits_fit (high_part π cs) (but_last (map top cs)))) message_bounded
+
+  -- and so is the number so far
+  pub high_so_far : {k : ℕ} → message_bits π ≤ k → (i n : ℕ) →
+      followed symbols n (chosen (drop i π.free) (map value (drop i (held π a)))) ≡ high_part π (held π a) → n < 2 ^ k
+  high_so_far b i n e =
+      lt_of_le_of_lt (rw (e) at (followed_le symbols symbols_fit n (chosen (drop i π.free) (map value (drop i cs)))))
+      (lt_of_lt_of_le high_bounded (pow_mono b))
+
+  pub message_so_far : {k : ℕ} → message_bits π ≤ k → (i n : ℕ) →
+      followed bits n (drop i (but_last (map top (held π a)))) ≡ message_number π (message_in π (held π a)) → n < 2 ^ k
+  message_so_far b i n e =
+      lt_of_le_of_lt (rw (e) at (followed_le bits bits_fit n (drop i (but_last (map top cs)))))
+      (lt_of_lt_of_le message_bounded (pow_mono b))

@@ -1,10 +1,10 @@
 -- The search for a codeword: what it asks of a code, its answers, and a trial with bits of one column inverted.
 -- Of a trial are known its packed syndrome and whether its top row is off; inverting bits of a column adds that column's multiple to the
 -- one and the bit of the top row to the other. A packed syndrome stays below 4 to the power of the rows.
-use Rattle.std.proofs.Common.{◌≡◌, ℕ, ◌+◌, ◌<◌, ◌≤◌, Bool, true, List, [], length, get_or, ◌∙◌, lt_of_lt_of_le, arith, pow_mono}
+use Rattle.std.proofs.Common.{◌≡◌, ℕ, ◌+◌, ◌<◌, ◌≤◌, Bool, true, [], length, get_or, ◌∙◌, arith}
 use lib.Bits.{bit_xor}
 use Rattle.symbols.specs.Symbol.{◌⊻◌}
-use Rattle.symbols.specs.Column.{Column, value, top, weight, column_of}
+use Rattle.symbols.specs.Column.{value, top, weight, column_of}
 use Rattle.symbols.proofs.Claims.{exclusive_or}
 use Rattle.codes.specs.declared.code.Code.{Code}
 use Rattle.codes.specs.declared.search.Trial.{Trial}
@@ -14,7 +14,7 @@ use Rattle.codes.specs.Projection.{Projection, wanted, size, width}
 use Rattle.codes.specs.Word.{word, top_row, distance}
 use Rattle.codes.specs.Codes.{projection}
 use Rattle.codes.specs.ContractsOfWalk.{multiple}
-use Rattle.codes.specs.ContractsOfSearch.{inverted, Known, Within, nothing, Sought}
+use Rattle.codes.specs.ContractsOfSearch.{inverted, Known}
 use Rattle.codes.proofs.Vectors.{shaped, length_scale}
 use Rattle.codes.proofs.Digits.{symbols_fit, digits_again}
 use Rattle.codes.proofs.Distance.{Apart}
@@ -35,20 +35,11 @@ pub record Searchable (π : Projection) : Type 0 where
 pub searchable : (c : Code) → Searchable (projection c)
 searchable c = record { apart = apart c; shape = (systematic c).shape; narrow = width_le c; wide = seven_le c }
 
--- an answer that is found, one that says that there is none, and one that is a word of the code's width
-pub sought_one : {P : ℕ → Type 0} (r : ℕ) → P r → r < nothing → Sought P r
-sought_one r p h = record { found = λ l. p; none = λ l. absurd (omega arith) }
-
-pub sought_none : {P : ℕ → Type 0} → ((y : ℕ) → P y → ⊥) → Sought P nothing
-sought_none n = record { found = λ l. absurd (omega arith); none = λ l. n }
-
-pub sought_word : {π : Projection} {test : List Column → Bool} {k x y : ℕ} → Searchable π → Within π test k x y → Sought (Within π test k x) y
-sought_word code w = sought_one _ w (lt_of_lt_of_le w.fits (pow_mono code.narrow))
-
 -- a trial with the bits q of column j inverted
 abbrev pub inverted_trial : Projection → Trial → ℕ → ℕ → Trial
 inverted_trial π t j q =
     record {
+      code = t.code;
       word = inverted π t.word j q;
       syndrome = bit_xor t.syndrome (multiple π j (value (column_of q)));
       off = t.off ⊻ top (column_of q);

@@ -3,7 +3,8 @@
 -- and the column has the parity. With one such column left, just the row that makes syndrome and top row right gives a codeword one position
 -- away. Where more than three columns lack the parity, no codeword is within three positions; of seven columns or more, that is so of one of
 -- the two parities, and a codeword within three positions has the other.
-use Rattle.std.proofs.Common.{◌≡◌, ℕ, zero, suc, ◌+◌, ◌-◌, ◌/◌, ◌^◌, ◌<◌, ◌≤◌, Bool, true, false, not, eqb, ltb, List, [], ◌∷◌, length, get_or, sym, refl, ap, ◌∙◌, ap₂, arith, ltb→lt, below_more, ltb-false, ltb-true, ne_eqb, eqb-true}
+use Rattle.std.specs.Prelude.{Option, None, Some}
+use Rattle.std.proofs.Common.{◌≡◌, ℕ, zero, suc, ◌-◌, ◌/◌, ◌^◌, ◌<◌, ◌≤◌, Bool, true, false, not, eqb, ltb, List, [], ◌∷◌, length, get_or, sym, refl, ap, ◌∙◌, ap₂, arith, ltb→lt, ltb-false, ltb-true, ne_eqb, eqb-true}
 use mathlib.Core.Bool.{Bool-discrete, false≢true}
 use borrow.Author.Tests.{eqb-false}
 use lib.Bits.{bit_xor, xor_add_and, and_le_l, and_le_r, xor_self as xor_same}
@@ -15,13 +16,14 @@ use Rattle.codes.specs.declared.code.Code.{Code}
 use Rattle.codes.specs.declared.search.Trial.{Trial}
 use Rattle.codes.specs.declared.word.Walk.{Walk}
 use Rattle.codes.specs.Vector.{scale}
-use Rattle.codes.specs.Projection.{Projection, wanted, count, size}
+use Rattle.codes.specs.Digits.{mask}
+use Rattle.codes.specs.Projection.{Projection, wanted, count, size, width}
 use Rattle.codes.specs.Word.{word, all_parity, is_codeword_of, is_codeword}
 use Rattle.codes.specs.Codes.{projection}
 use Rattle.codes.specs.Claims.{WalkCollects}
 use Rattle.codes.specs.ContractsOfWalk.{multiple}
-use Rattle.codes.specs.ContractsOfSearch.{lacking, first, cleared, inverted, row_inverted, Known, Left, LackingMask}
-use Rattle.codes.specs.ContractsOfSearch.{Within, nothing, Sought, Solved}
+use Rattle.codes.specs.ContractsOfSearch.{lacking, first, cleared, inverted, row_inverted, Left, Begun}
+use Rattle.codes.specs.ContractsOfSearch.{Within, Sought, Solved}
 use Rattle.codes.proofs.Walks.{collected}
 use Rattle.codes.proofs.Masks.{first_lt, length_lacking}
 use Rattle.codes.proofs.Sums.{zero_number}
@@ -30,7 +32,7 @@ use Rattle.codes.proofs.Words.{Codeword, codeword_parts, codeword_passes, is_cod
 use Rattle.codes.proofs.Flips.{blank, invert, row_column, nearer, word_inverted}
 use Rattle.codes.proofs.Differences.{lacks, lacks_distance, lacks_both, lacks_none}
 use Rattle.codes.proofs.Entries.{scale_zero}
-use Rattle.codes.proofs.Searches.{Searchable, sought_one, sought_none, sought_word, inverted_trial, known_inverted, inverted_nearer_by}
+use Rattle.codes.proofs.Searches.{Searchable, inverted_trial, known_inverted, inverted_nearer_by}
 use Rattle.codes.proofs.Syndromes.{xor_equal, zero_here, zero_off, none_within_one}
 
 -- the column with a one in row r alone: its value is the row's symbol, and its top bit is one where r is 0
@@ -132,33 +134,21 @@ module _ {π : Projection} {p : Bool} {j : ℕ} {js : List ℕ} {t : Trial} (lef
         close = omega (arith, w.close, inverted_nearer_by π x y j (8 / 2 ^ r) inside (row_small r hr), row_one r hr);
       }
 
--- the rows of column j below `row` were tried, and with none of them inverted a codeword is within one position fewer
-abbrev pub Tried : Projection → ℕ → List ℕ → ℕ → Trial → ℕ → Type 0
-Tried π j js k t row =
-    (r : ℕ) → r < row → (n : ℕ) → k ≤ n → n ≤ suc k → (p : Bool) → Left π p (j ∷ js) t →
-    (y : ℕ) → Within π (is_codeword_of π p) (n - 1) (inverted π t.word j (8 / 2 ^ r)) y → ⊥
+-- what solves the trial with a row of column j inverted solves the trial, and none does where none does with any of the four
+module _ {π : Projection} {j : ℕ} {js : List ℕ} {k : ℕ} {t : Trial} (code : Searchable π) where
+  pub found_by_row : {y : ℕ} (row : ℕ) → row < 4 → Solved π js k (row_inverted π t j row) (Some y) → Solved π (j ∷ js) (suc k) t (Some y)
+  found_by_row {y} row hr solved n l h p left =
+      row_found left n row y (omega arith) hr (solved (n - 1) (omega arith) (omega arith) p (row_left left code row hr))
 
--- what the search with row r inverted found, or that it found nothing
-module _ {π : Projection} {j : ℕ} {js : List ℕ} {k : ℕ} {t : Trial} (some : 1 ≤ k) where
-  module _ (code : Searchable π) (r : ℕ) (hr : r < 4) {found : ℕ} (solved : Solved π js (k - 1) (row_inverted π t j r) found) where
-    after : (n : ℕ) → k ≤ n → n ≤ suc k → (p : Bool) → Left π p (j ∷ js) t →
-        Sought (Within π (is_codeword_of π p) (n - 1) (inverted π t.word j (8 / 2 ^ r))) found
-    after n l h p left = solved (n - 1) (omega arith) (omega arith) p (row_left left code r hr)
-
-    pub tried_found : found < nothing → Solved π (j ∷ js) k t found
-    tried_found f n l h p left = sought_one found (row_found left n r found (omega arith) hr ((after n l h p left).found f)) f
-
-    pub tried_next : nothing ≤ found → Tried π j js k t r → Tried π j js k t (r + 1)
-    tried_next f tried = below_more _ r tried (λ n l h p left. (after n l h p left).none f)
-
-  pub tried_none : (row : ℕ) → 4 ≤ row → Tried π j js k t row → Solved π (j ∷ js) k t nothing
-  tried_none row e tried n l h p left = sought_none (row_none left n (omega arith) (λ r hr. tried r (omega arith) n l h p left))
+  pub none_by_row : ((row : ℕ) → row < 4 → Solved π js k (row_inverted π t j row) None) → Solved π (j ∷ js) (suc k) t None
+  none_by_row none n l h p left =
+      row_none left n (omega arith) (λ row hr. none row hr (n - 1) (omega arith) (omega arith) p (row_left left code row hr))
 
 -- what is within one position is within three and four
-pub further : {π : Projection} {js : List ℕ} {t : Trial} {r : ℕ} → Solved π js 1 t r → r < nothing → Solved π js 3 t r
-further {π} {js} {t} {r} solved f k l h p left =
-    let w = (solved 1 (omega arith) (omega arith) p left).found f in
-    sought_one r (record { fits = w.fits; passes = w.passes; close = omega (arith, w.close) }) f
+pub further : {π : Projection} {js : List ℕ} {t : Trial} {y : ℕ} → Solved π js 1 t (Some y) → Solved π js 3 t (Some y)
+further solved k l h p left =
+    let w = solved 1 (omega arith) (omega arith) p left in
+    record { fits = w.fits; passes = w.passes; close = omega (arith, w.close) }
 
 -- where one column is left, just the row that makes the syndrome and the top row right gives a codeword
 xor_zero : (m n : ℕ) → bit_xor m n ≡ 0 → m ≡ n
@@ -175,13 +165,13 @@ abbrev Right : Projection → ℕ → Trial → ℕ → Type 0
 Right π j t r = (t.syndrome ≡ multiple π j (symbol_of r)) × (t.off ≡ eqb r 0)
 
 module _ {π : Projection} (code : Searchable π) {j : ℕ} {t : Trial} where
-  last_found : (r : ℕ) → r < 4 → Right π j t r → Solved π (j ∷ []) 1 t (inverted π t.word j (8 / 2 ^ r))
+  last_found : (r : ℕ) → r < 4 → Right π j t r → Solved π (j ∷ []) 1 t (Some (inverted π t.word j (8 / 2 ^ r)))
   last_found r hr (es, eo) k l h p left =
       let next = row_left left code r hr in
       let here =
       zero_here next.known (lacks_none p (word π (row_inverted π t j r).word) next.places) (k - 1)
       (rw es (xor_same (multiple π j (symbol_of r)))) (rw eo (exclusive_or.self (eqb r 0))) in
-      sought_word code (row_found left k r (row_inverted π t j r).word l hr here)
+      row_found left k r (row_inverted π t j r).word l hr here
 
   row_fails : (r : ℕ) → r < 4 → (Right π j t r → ⊥) → (k : ℕ) → 1 ≤ k → k ≤ 2 → (p : Bool) → Left π p (j ∷ []) t →
       (y : ℕ) → Within π (is_codeword_of π p) (k - 1) (inverted π t.word j (8 / 2 ^ r)) y → ⊥
@@ -200,14 +190,14 @@ module _ {π : Projection} (code : Searchable π) {j : ℕ} {t : Trial} where
       go true ez false eo =
           absurd (fails (xor_zero t.syndrome (multiple π j (symbol_of r)) (eqb-true (row_inverted π t j r).syndrome 0 ez), xor_equal t.off (eqb r 0) eo))
 
-  last_none : ((r : ℕ) → r < 4 → Right π j t r → ⊥) → Solved π (j ∷ []) 1 t nothing
-  last_none fail k l h p left = sought_none (row_none left k l (λ r hr. row_fails r hr (fail r hr) k l h p left))
+  last_none : ((r : ℕ) → r < 4 → Right π j t r → ⊥) → Solved π (j ∷ []) 1 t None
+  last_none fail k l h p left = row_none left k l (λ r hr. row_fails r hr (fail r hr) k l h p left)
 
   -- the top row is off: it is row 0 or none; it is not: it is one of the others
-  pub last_top : t.off ≡ true → t.syndrome ≡ 0 → Solved π (j ∷ []) 1 t (inverted π t.word j 8)
+  pub last_top : t.off ≡ true → t.syndrome ≡ 0 → Solved π (j ∷ []) 1 t (Some (inverted π t.word j 8))
   last_top eo es = last_found 0 (omega arith) (es ∙ sym (multiple_zero π j), eo)
 
-  pub last_off : t.off ≡ true → (t.syndrome ≡ 0 → ⊥) → Solved π (j ∷ []) 1 t nothing
+  pub last_off : t.off ≡ true → (t.syndrome ≡ 0 → ⊥) → Solved π (j ∷ []) 1 t None
   last_off eo n = last_none fail
     where
       fail : (r : ℕ) → r < 4 → Right π j t r → ⊥
@@ -215,11 +205,11 @@ module _ {π : Projection} (code : Searchable π) {j : ℕ} {t : Trial} where
       fail (suc r) h (e, o) = false≢true (sym (o ∙ later r) ∙ eo)
 
   pub last_row : (r : ℕ) → t.off ≡ false → 1 ≤ r → r < 4 → t.syndrome ≡ multiple π j (symbol_of r) →
-      Solved π (j ∷ []) 1 t (inverted π t.word j (8 / 2 ^ r))
+      Solved π (j ∷ []) 1 t (Some (inverted π t.word j (8 / 2 ^ r)))
   last_row zero eo l h es = absurd (omega arith)
   last_row (suc r) eo l h es = last_found (suc r) h (es, eo ∙ sym (later r))
 
-  pub last_others : t.off ≡ false → ((r : ℕ) → r < 4 → 1 ≤ r → t.syndrome ≡ multiple π j (symbol_of r) → ⊥) → Solved π (j ∷ []) 1 t nothing
+  pub last_others : t.off ≡ false → ((r : ℕ) → r < 4 → 1 ≤ r → t.syndrome ≡ multiple π j (symbol_of r) → ⊥) → Solved π (j ∷ []) 1 t None
   last_others eo none = last_none fail
     where
       fail : (r : ℕ) → r < 4 → Right π j t r → ⊥
@@ -227,14 +217,19 @@ module _ {π : Projection} (code : Searchable π) {j : ℕ} {t : Trial} where
       fail (suc r) h (e, o) = none (suc r) h (omega arith) e
 
 -- what the walk hands on begins the search
-pub begun_known : (c : Code) (p : Bool) (x d : ℕ) (walk : Walk) → LackingMask (projection c) p d x → WalkCollects c x walk →
-    (off : Bool) → off ≡ walk.top ⊻ wanted (projection c).rule p → Known (projection c) p (record { word = x; syndrome = walk.syndrome; off = off })
-begun_known c p x d walk begun collects off eo =
+pub begun : (c : Code) (p : Bool) (x d : ℕ) (walk : Walk) (off : Bool) → x < 2 ^ width (projection c) → d ≡ mask (lacking p (word (projection c) x)) →
+    WalkCollects c x walk → off ≡ walk.top ⊻ wanted (projection c).rule p →
+    Begun (projection c) p d (record { code = c; word = x; syndrome = walk.syndrome; off = off })
+begun c p x d walk off fits masks collects eo =
     record {
-      fits = begun.fits;
-      syndromes = (collected c x walk collects).syndromes;
-      bounded = collects.bounded;
-      tops = rw (eo, collects.top);
+      known =
+          record {
+            fits = fits;
+            syndromes = (collected c x walk collects).syndromes;
+            bounded = collects.bounded;
+            tops = rw (eo, collects.top);
+          };
+      masks = masks;
     }
 
 -- where more than three columns lack the parity, no codeword is within three positions
@@ -247,30 +242,24 @@ within_by : {π : Projection} {test test' : List Column → Bool} {k x y : ℕ} 
 within_by w e = record { fits = w.fits; passes = e; close = w.close }
 
 -- a codeword of one parity is one, and it is the answer where none of the other parity is close
-sought_parity : {π : Projection} {k x r : ℕ} (p : Bool) → ((y : ℕ) → Within π (is_codeword_of π (not p)) k x y → ⊥) →
-    Sought (Within π (is_codeword_of π p) k x) r → Sought (Within π (is_codeword π) k x) r
-sought_parity {π} {k} {x} {r} p other sought =
-    record {
-      found = λ l. any (sought.found l);
-      none = λ l y w. go l y w (codeword_parity π (word π y) w.passes);
-    }
+sought_parity : {π : Projection} {k x : ℕ} (p : Bool) → ((y : ℕ) → Within π (is_codeword_of π (not p)) k x y → ⊥) →
+    (r : Option ℕ) → Sought (Within π (is_codeword_of π p) k x) r → Sought (Within π (is_codeword π) k x) r
+sought_parity {π} {k} {x} p other (Some y) w = within_by w (is_codeword_lem π p (word π y) (codeword_parts π p (word π y) w.passes))
+sought_parity {π} {k} {x} p other None none = λ y w. go y w (codeword_parity π (word π y) w.passes)
   where
-    any : {y : ℕ} → Within π (is_codeword_of π p) k x y → Within π (is_codeword π) k x y
-    any {y} w = within_by w (is_codeword_lem π p (word π y) (codeword_parts π p (word π y) w.passes))
-
     either : (p q : Bool) (y : ℕ) → Codeword π q (word π y) → (is_codeword_of π (not p) (word π y) ≡ true → ⊥) → is_codeword_of π p (word π y) ≡ true
     either true true y c n = codeword_passes π true (word π y) c
     either true false y c n = absurd (n (codeword_passes π false (word π y) c))
     either false true y c n = absurd (n (codeword_passes π true (word π y) c))
     either false false y c n = codeword_passes π false (word π y) c
 
-    go : nothing ≤ r → (y : ℕ) → Within π (is_codeword π) k x y → (q : Bool) × Codeword π q (word π y) → ⊥
-    go l y w (q, c) = sought.none l y (within_by w (either p q y c (λ e. other y (within_by w e))))
+    go : (y : ℕ) → Within π (is_codeword π) k x y → (q : Bool) × Codeword π q (word π y) → ⊥
+    go y w (q, c) = none y (within_by w (either p q y c (λ e. other y (within_by w e))))
 
 -- where more than three columns are odd the codeword is odd, else it is even
-pub sought_majority : {π : Projection} {x r : ℕ} → Searchable π → (p : Bool) → p ≡ ltb 3 (lacks false (word π x)) →
-    Sought (Within π (is_codeword_of π p) 3 x) r → Sought (Within π (is_codeword π) 3 x) r
-sought_majority {π} {x} code true e sought = sought_parity true (too_many π false x (ltb-true 3 (lacks false (word π x)) (sym e))) sought
-sought_majority {π} {x} code false e sought =
+pub sought_majority : {π : Projection} (x : ℕ) → Searchable π → (p : Bool) → p ≡ ltb 3 (lacks false (word π x)) →
+    (r : Option ℕ) → Sought (Within π (is_codeword_of π p) 3 x) r → Sought (Within π (is_codeword π) 3 x) r
+sought_majority {π} x code true e r sought = sought_parity true (too_many π false x (ltb-true 3 (lacks false (word π x)) (sym e))) r sought
+sought_majority {π} x code false e r sought =
     let few = ltb-false 3 (lacks false (word π x)) (sym e) in
-    sought_parity false (too_many π true x (omega (arith, lacks_both (word π x), length_word π x, code.wide))) sought
+    sought_parity false (too_many π true x (omega (arith, lacks_both (word π x), length_word π x, code.wide))) r sought

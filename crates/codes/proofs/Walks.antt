@@ -2,7 +2,7 @@
 -- the top row's parity and its multiple of the matrix's column to the syndrome. What is collected of the columns behind one, and that column, make
 -- up what is collected from there on: the parities are a mask, packed vectors add by exclusive or, and the syndrome and the top row's parity are
 -- defined by the first column and the rest. A packed syndrome stays below 4 to the power of the rows, as each multiple does, since that is a
--- power of two. Behind a code's last column there is nothing to collect.
+-- power of two.
 use Rattle.std.proofs.Common.{◌≡◌, ℕ, zero, suc, ◌+◌, ◌*◌, ◌^◌, ◌<◌, ◌≤◌, true, false, not, eqb, List, [], ◌∷◌, map, length, get_or, take, drop, sym, refl, ap, ◌∙◌, arith, drop_of_length-le, length-take-le, drop-cons, get_or-take, eqb-true}
 use mathlib.Core.Bool.{beq, and-eq-true_iff}
 use lib.Bits.{bit_xor, xor_lt}
@@ -61,7 +61,7 @@ shaped_at r [] j s l = absurd (omega arith)
 shaped_at r (h ∷ hs) zero s l = eqb-true (length h) r ((and-eq-true_iff (eqb (length h) r) (shaped r hs)).0 s).0
 shaped_at r (h ∷ hs) (suc j) s l = shaped_at r hs j ((and-eq-true_iff (eqb (length h) r) (shaped r hs)).0 s).1 (omega arith)
 
--- one step of the walk, at a column of the code and behind the last
+-- one step of the walk, at a column of the code
 module _ (π : Projection) (i x : ℕ) where
   pub one_column_more : shaped π.rows π.matrix ≡ true → i < size π → (behind from : Walk) (g : ℕ) →
       g ≡ number_of symbols (scale (value (column_of x)) (get_or π.matrix i [])) →
@@ -71,13 +71,6 @@ module _ (π : Projection) (i x : ℕ) where
       rw (drop-cons π.matrix i [] h, drop-cons cs i (column_of 0) (omega arith), here h)
       (walked_more π.rows (get_or π.matrix i []) (drop (suc i) π.matrix) (column_of x) (drop (suc i) cs) behind from g
       (shaped_at π.rows π.matrix i shape h) eg ep et es w)
-
-  pub no_column_more : size π ≤ i → (walk : Walk) → OneMore π i x walk walk
-  no_column_more h walk cs long here w =
-      rw (ended π.matrix h, ended cs (omega arith)) w
-    where
-      ended : {A : Type 0} (l : List A) → length l ≤ i → drop i l ≡ drop (suc i) l
-      ended l e = drop_of_length-le l {i = i} e ∙ sym (drop_of_length-le l {i = suc i} (omega arith))
 
 -- as many bits as columns have parities
 pub parities_lt : {r : ℕ} {H : List (List Symbol)} {cs : List Column} {walk : Walk} → Collected r H cs walk → walk.parities < 2 ^ length cs

@@ -1,15 +1,11 @@
 -- The four codes by their numbers, and what each word call answers.
-use Rattle.std.specs.Prelude.{ℕ, ◌-◌, ◌/◌, ◌^◌, Bool, cond, not, ◌&&◌, List, [], ◌∷◌, length, nat_le, slice_index_or}
+use Rattle.std.specs.Prelude.{ℕ, ◌-◌, ◌/◌, ◌^◌, Bool, cond, not, ◌&&◌, List, [], ◌∷◌, length, nat_le, slice_index_or, Result, Ok, Err}
 use Rattle.std.proofs.Math.Option.{Option, none, some}
 use Rattle.codes.specs.declared.code.Code.{Code}
 use Rattle.codes.specs.declared.code.Code.TheVariants.{O36, E36, O40, E40}
-use Rattle.codes.specs.declared.code.CodeFound.{CodeFound}
 use Rattle.codes.specs.declared.answer.Refusal.{Refusal}
 use Rattle.codes.specs.declared.answer.Refusal.TheVariants.{UnknownCode, MessageTooLarge, WordTooWide, NotACodeword, NoneNear}
-use Rattle.codes.specs.declared.answer.Encoded.{Encoded}
-use Rattle.codes.specs.declared.answer.Decoded.{Decoded}
 use Rattle.codes.specs.declared.answer.Correction.{Correction}
-use Rattle.codes.specs.declared.answer.Corrected.{Corrected}
 use Rattle.codes.specs.Answer.{Answer, accepted, refused, Row, unless}
 use Rattle.codes.specs.Projection.{Projection, rule_o, rule_e, nine, ten, width, message_bits}
 use Rattle.codes.specs.Word.{word, is_codeword}
@@ -37,8 +33,8 @@ abbrev pub step_limit : Projection → ℕ
 step_limit π = 2 ^ message_bits π / 4096
 
 -- 'code not 1 to 4'
-abbrev pub code_found : ℕ → CodeFound
-code_found n = cond (is_code n) (CodeFound.Code (code_of n)) (CodeFound.Refused UnknownCode)
+abbrev pub code_found : ℕ → Result Code Refusal
+code_found n = cond (is_code n) (Ok (code_of n)) (Err UnknownCode)
 
 -- each refusal's number
 abbrev pub refusal_number : Refusal → ℕ
@@ -53,17 +49,17 @@ abbrev pub correction_values : Correction → List ℕ
 correction_values c = c.codeword ∷ c.message ∷ c.wrong ∷ c.marks ∷ []
 
 -- the number and values of each case of an answer
-abbrev pub encoded_answer : Encoded → Answer (List ℕ)
-encoded_answer (Encoded.Word w) = accepted (w ∷ [])
-encoded_answer (Encoded.Refused r) = refused (refusal_number r)
+abbrev pub encoded_answer : Result ℕ Refusal → Answer (List ℕ)
+encoded_answer (Ok w) = accepted (w ∷ [])
+encoded_answer (Err r) = refused (refusal_number r)
 
-abbrev pub decoded_answer : Decoded → Answer (List ℕ)
-decoded_answer (Decoded.Message m) = accepted (m ∷ [])
-decoded_answer (Decoded.Refused r) = refused (refusal_number r)
+abbrev pub decoded_answer : Result ℕ Refusal → Answer (List ℕ)
+decoded_answer (Ok m) = accepted (m ∷ [])
+decoded_answer (Err r) = refused (refusal_number r)
 
-abbrev pub corrected_answer : Corrected → Answer (List ℕ)
-corrected_answer (Corrected.Near c) = accepted (correction_values c)
-corrected_answer (Corrected.Refused r) = refused (refusal_number r)
+abbrev pub corrected_answer : Result Correction Refusal → Answer (List ℕ)
+corrected_answer (Ok c) = accepted (correction_values c)
+corrected_answer (Err r) = refused (refusal_number r)
 
 abbrev pub correction_answer : Option Correction → Answer (List ℕ)
 correction_answer (some c) = accepted (correction_values c)

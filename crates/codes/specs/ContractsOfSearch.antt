@@ -1,15 +1,14 @@
 -- What the private steps of correction say to each other in their contracts. Nothing public rests on it.
-use Rattle.std.specs.Prelude.{◌≡◌, ℕ, suc, ◌-◌, ◌*◌, ◌/◌, ◌^◌, ◌<◌, ◌≤◌, Bool, true, false, cond, List, [], ◌∷◌, map, length, ◌==◌, bit_xor, nat_eq}
+use Rattle.std.specs.Prelude.{◌≡◌, ℕ, suc, ◌-◌, ◌*◌, ◌/◌, ◌^◌, ◌<◌, ◌≤◌, Bool, true, false, cond, List, [], ◌∷◌, map, length, ◌==◌, bit_xor, nat_eq, Option, MatchOption}
 use Rattle.symbols.specs.Symbol.{◌⊻◌, Symbol, s0, s1, s2, s3, symbol_of}
 use Rattle.symbols.specs.Column.{Column, parity}
-use Rattle.codes.specs.declared.search.MatrixColumn.{MatrixColumn}
 use Rattle.codes.specs.declared.search.Trial.{Trial}
 use Rattle.codes.specs.Digits.{symbols, digits, number_of, mask}
 use Rattle.codes.specs.Vector.{scale}
 use Rattle.codes.specs.Projection.{Projection, wanted, count, size, width}
 use Rattle.codes.specs.Word.{word, syndrome_of, top_row, is_codeword_of, distance}
 use Rattle.codes.specs.Correction.{Near}
-use Rattle.codes.specs.ContractsOfWalk.{multiple, Multiples}
+use Rattle.codes.specs.ContractsOfWalk.{multiple}
 
 -- the multiples by 0, 1, 2 and 3 of each column of a matrix, packed
 abbrev pub all_multiples : List (List Symbol) → List ℕ
@@ -25,11 +24,6 @@ index_from e (x ∷ xs) s = cond (x == s) e (index_from (suc e) xs s)
 -- the entry of a packed syndrome: 4 times a column, counted from 1, plus the scale, where it is that scale times that column, otherwise 0
 abbrev pub entry : Projection → ℕ → ℕ
 entry π s = cond (s == 0) 0 (index_from 4 (all_multiples π.matrix) s)
-
--- a column of the check matrix, by its place, has its multiples
-pub record IsColumn (π : Projection) (c : MatrixColumn) : Type 0 where
-  pub inside : c.place < size π
-  pub multiples : Multiples π c.place c.multiples
 
 -- which columns lack parity p
 abbrev pub lacking : Bool → List Column → List Bool
@@ -80,19 +74,20 @@ pub record Left (π : Projection) (p : Bool) (js : List ℕ) (t : Trial) : Type 
   pub known : Known π p t
   pub places : Places js (lacking p (word π t.word))
 
+-- the same where d is the mask of the columns that lack parity p
+pub record Begun (π : Projection) (p : Bool) (d : ℕ) (t : Trial) : Type 0 where
+  pub known : Known π p t
+  pub masks : d ≡ mask (lacking p (word π t.word))
+
 -- a trial with row r of column j inverted
 abbrev pub row_inverted : Projection → Trial → ℕ → ℕ → Trial
 row_inverted π t j r =
     record {
+      code = t.code;
       word = inverted π t.word j (8 / 2 ^ r);
       syndrome = bit_xor t.syndrome (multiple π j (symbol_of r));
       off = t.off ⊻ nat_eq r 0;
     }
-
--- a word of which d is the mask of the columns that lack parity p
-pub record LackingMask (π : Projection) (p : Bool) (d x : ℕ) : Type 0 where
-  pub fits : x < 2 ^ width π
-  pub masks : d ≡ mask (lacking p (word π x))
 
 -- y is a word that passes a test and lies within k positions of x
 pub record Within (π : Projection) (test : List Column → Bool) (k x y : ℕ) : Type 0 where
@@ -105,17 +100,19 @@ pub record NearWithin (π : Projection) (w m k x y : ℕ) : Type 0 where
   pub is : Near π w m y
   pub close : distance (word π x) (word π y) ≤ k
 
--- a number above every word stands for nothing
-abbrev pub nothing : ℕ
-nothing = 2 ^ 40
-
--- an answer: it has P, or it is nothing, and then nothing has P
-pub record Sought (P : ℕ → Type 0) (r : ℕ) : Type 0 where
-  pub found : r < nothing → P r
-  pub none : nothing ≤ r → (y : ℕ) → P y → ⊥
+-- an answer: what is found has P, and where nothing is, nothing has P
+abbrev pub Sought : (ℕ → Type 0) → Option ℕ → Type 0
+Sought P r = MatchOption r ((y : ℕ) → P y → ⊥) P
 
 -- the answer at a trial whose columns at the places js lack a parity, and no others: the codeword of that parity within k positions. It is the same
 -- within one more, since the distance of every codeword of that parity is odd or even as the number of these columns is
-abbrev pub Solved : Projection → List ℕ → ℕ → Trial → ℕ → Type 0
+abbrev pub Solved : Projection → List ℕ → ℕ → Trial → Option ℕ → Type 0
 Solved π js k t r =
     (n : ℕ) → k ≤ n → n ≤ suc k → (p : Bool) → Left π p js t → Sought (Within π (is_codeword_of π p) n t.word) r
+
+-- the answer of a search that is made with each row of column j inverted: where it solves what is then left, the answer solves the trial
+abbrev pub SolvedByRows : Projection → Trial → ℕ → (Trial → Option ℕ → Type 0) → Option ℕ → Type 0
+SolvedByRows π t j Finds r =
+    (js : List ℕ) (k : ℕ) →
+    ((row : ℕ) → row < 4 → (s : Option ℕ) → Finds (row_inverted π t j row) s → Solved π js k (row_inverted π t j row) s) →
+    Solved π (j ∷ js) (suc k) t r

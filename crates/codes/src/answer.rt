@@ -3,7 +3,7 @@ ghost use Rattle.std.specs.Prelude.{◌≡◌};
 ghost use Rattle.codes.specs.Codes.{refusal_number};
 
 // Why a call is refused.
-#[derive(Clone, Copy)]
+#[derive(Clone, Copy, Debug, PartialEq, Eq)]
 pub enum Refusal {
     UnknownCode,
     MessageTooLarge,
@@ -27,32 +27,11 @@ impl Refusal {
     }
 }
 
-// Of writing: the codeword.
-#[derive(Clone, Copy)]
-pub enum Encoded {
-    Word(u64),
-    Refused(Refusal),
-}
-
-// Of strict reading: the message.
-#[derive(Clone, Copy)]
-pub enum Decoded {
-    Message(u64),
-    Refused(Refusal),
-}
-
-// The near codeword, its message, the unmarked positions where it differs from the word, and the number of marks.
+// What mending finds: the near codeword, its message, the unmarked positions where it differs from the word, and the number of marks.
 #[derive(Clone, Copy)]
 pub struct Correction {
     pub codeword: u64,
     pub message: u64,
     pub wrong: u64,
     pub marks: u64,
-}
-
-// Of mending.
-#[derive(Clone, Copy)]
-pub enum Corrected {
-    Near(Correction),
-    Refused(Refusal),
 }

@@ -14,30 +14,35 @@ pub enum Code {
     E40,
 }
 
-// What a code's number stands for.
-#[derive(Clone, Copy)]
-pub enum CodeFound {
-    Code(Code),
-    Refused(Refusal),
+// The code with a number, 1 to 4, or the refusal of any other number.
+impl TryFrom<u64> for Code {
+    type Error = Refusal;
+
+    ghost try_from_gives = { λ number r. r ≡ code_found number };
+
+    fn try_from(number: u64) -> Result<Self, Refusal> {
+        match number {
+            1 => Ok(Code::O36),
+            2 => Ok(Code::E36),
+            3 => Ok(Code::O40),
+            4 => Ok(Code::E40),
+            _ => Err(Refusal::UnknownCode),
+        }
+    }
 }
 
 impl Code {
-    // The numbers of the codes of 36 bits, and of those of 40.
+    // The numbers of the codes of 36 bits, and of those of 40: by a rule of the project they are constants of this type.
     const COLUMNS_36: usize = 9;
 
     const COLUMNS_40: usize = 10;
-
-    const WIDTH_36: u64 = 36;
-
-    const WIDTH_40: u64 = 40;
 
     const MESSAGE_BITS_36: u64 = 19;
 
     const MESSAGE_BITS_40: u64 = 22;
 
-    const STEP_LIMIT_36: u64 = 128;
-
-    const STEP_LIMIT_40: u64 = 1024;
+    // The number of readings: a message is a step times this plus a reading.
+    pub const READINGS: u64 = 4096;
 
     // Which columns are free, and how many free ones stand behind each column.
     const FREE_36: [bool; 10] = [
@@ -52,19 +57,6 @@ impl Code {
 
     const BEHIND_40: [u8; 10] = [5, 4, 3, 3, 2, 1, 0, 0, 0, 0];
 
-    // The code with a number, 1 to 4, or the refusal of any other number.
-    pub fn from_number(number: u64) -> CodeFound
-        ensures { result ≡ code_found number }
-    {
-        match number {
-            1 => CodeFound::Code(Code::O36),
-            2 => CodeFound::Code(Code::E36),
-            3 => CodeFound::Code(Code::O40),
-            4 => CodeFound::Code(Code::E40),
-            _ => CodeFound::Refused(Refusal::UnknownCode),
-        }
-    }
-
     // The number of columns.
     pub fn columns(self) -> usize
         ensures { result ≡ size (projection self) }
@@ -75,14 +67,11 @@ impl Code {
         }
     }
 
-    // The bits of a word.
+    // The bits of a word: four for each column.
     pub fn width(self) -> u64
         ensures { result ≡ width (projection self) }
     {
-        match self {
-            Code::O36 | Code::E36 => Code::WIDTH_36,
-            Code::O40 | Code::E40 => Code::WIDTH_40,
-        }
+        4 * self.columns() as u64
     }
 
     // The bits of a message.
@@ -109,14 +98,11 @@ impl Code {
         1u64 << self.message_bits()
     }
 
-    // The number of steps: a message is a step times 4096 plus a reading.
+    // The number of steps.
     pub fn step_limit(self) -> u64
         ensures { result ≡ step_limit (projection self) }
     {
-        match self {
-            Code::O36 | Code::E36 => Code::STEP_LIMIT_36,
-            Code::O40 | Code::E40 => Code::STEP_LIMIT_40,
-        }
+        self.message_limit() / Code::READINGS
     }
 
     // Whether a column, counted from 0, is free.
@@ -140,8 +126,8 @@ impl Code {
             return 0;
         }
         match self {
-            Code::O36 | Code::E36 => Code::BEHIND_36[column] as u64,
-            Code::O40 | Code::E40 => Code::BEHIND_40[column] as u64,
+            Code::O36 | Code::E36 => u64::from(Code::BEHIND_36[column]),
+            Code::O40 | Code::E40 => u64::from(Code::BEHIND_40[column]),
         }
     }
 

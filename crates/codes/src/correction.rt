@@ -8,7 +8,7 @@ ghost use Rattle.codes.specs.Codes.{projection};
 ghost use Rattle.codes.specs.ContractsOfSearch.{NearWithin, Sought};
 
 use crate::code::Code;
-use crate::search::{NONE, within_three};
+use crate::search::within_three;
 
 // A codeword is near up to this sum: twice the wrong bits, and the marks.
 const BUDGET: u64 = 7;
@@ -17,46 +17,53 @@ const BUDGET: u64 = 7;
 pub(crate) fn ones(packed: u64) -> u64
     ensures { (π : Projection) → packed < 2 ^ width π → result ≡ ones π packed }
 {
-    u64::count_ones(packed) as u64
+    u64::from(packed.count_ones())
 }
 
-// The number of unmarked positions where a codeword differs from a word.
-pub(crate) fn wrong(word: u64, marks: u64, codeword: u64) -> u64
-    ensures { (π : Projection) → word < 2 ^ width π → marks < 2 ^ width π → codeword < 2 ^ width π → result ≡ wrong π word marks codeword }
-{
-    ones(((codeword ^ word) | marks) ^ marks)
+// A word under its marks, neither with a bit above the code's width.
+#[derive(Clone, Copy)]
+pub(crate) struct Marked {
+    pub code: Code,
+    pub word: u64,
+    pub marks: u64,
+    ghost word_fits: { word < 2 ^ width (projection code) },
+    ghost marks_fit: { marks < 2 ^ width (projection code) },
 }
 
-// The near codeword, if it is within three positions of a filling of the marked bits.
-fn fitting(code: Code, filled: u64, word: u64, marks: u64) -> u64
-    requires { (filled < 2 ^ width (projection code)) × (word < 2 ^ width (projection code)) × (marks < 2 ^ width (projection code)) }
-    ensures { Sought (NearWithin (projection code) word marks 3 filled) result }
-{
-    let found = within_three(code, filled);
-    if NONE <= found {
-        return NONE;
+impl Marked {
+    // The number of unmarked positions where a codeword differs from the word.
+    pub(crate) fn wrong(self, codeword: u64) -> u64
+        requires { codeword < 2 ^ width (projection self.code) }
+        ensures { result ≡ wrong (projection self.code) self.word self.marks codeword }
+    {
+        ones(((codeword ^ self.word) | self.marks) ^ self.marks)
     }
-    if 2 * wrong(word, marks, found) + ones(marks) <= BUDGET {
-        return found;
-    }
-    NONE
-}
 
-// The near codeword, by either filling. Where nothing is marked the two are the same.
-pub(crate) fn near(code: Code, word: u64, marks: u64) -> u64
-    requires { (word < 2 ^ width (projection code)) × (marks < 2 ^ width (projection code)) }
-    ensures { Sought (Near (projection code) word marks) result }
-{
-    let full = word | marks;
-    let mut filled = full ^ marks;
-    loop {
-        let found = fitting(code, filled, word, marks);
-        if found < NONE {
-            return found;
+    // The near codeword, if it is within three positions of a filling of the marked bits. A call for each filling is slower than to inline it.
+    #[inline(always)]
+    fn fitting(self, filled: u64) -> Option<u64>
+        requires { filled < 2 ^ width (projection self.code) }
+        ensures { Sought (NearWithin (projection self.code) self.word self.marks 3 filled) result }
+    {
+        let found = within_three(self.code, filled)?;
+        if 2 * self.wrong(found) + ones(self.marks) <= BUDGET {
+            return Some(found);
         }
-        if filled == full {
-            return NONE;
+        None
+    }
+
+    // The near codeword, by either filling. Where nothing is marked the two are the same.
+    pub(crate) fn near(self) -> Option<u64>
+        ensures { Sought (Near (projection self.code) self.word self.marks) result }
+    {
+        let full = self.word | self.marks;
+        let zeros = full ^ self.marks;
+        if let Some(found) = self.fitting(zeros) {
+            return Some(found);
         }
-        filled = full;
+        if zeros == full {
+            return None;
+        }
+        self.fitting(full)
     }
 }

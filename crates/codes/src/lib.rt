@@ -14,7 +14,7 @@ mod search;
 mod table;
 mod word;
 
-pub use answer::{Corrected, Correction, Decoded, Encoded, Refusal};
+pub use answer::{Correction, Refusal};
 pub use calls::{correct, decode, encode};
-pub use code::{Code, CodeFound};
+pub use code::Code;
 pub use word::Walk;

@@ -1,5 +1,5 @@
-// A word as an array of columns, by value, and one walk over it. A code of m columns uses the first m of ten. `unpack` and the walk go over all ten: a
-// loop of a constant number of rounds keeps the array in registers.
+// A word as an array of columns, by value, and one walk over it. A code of m columns uses the first m of ten. `unpack`, the walk and `message_in` go over
+// all ten: a loop of a constant number of rounds keeps the array in registers.
 ghost use Rattle.std.specs.Prelude.{◌≡◌, ◌^◌, ◌<◌, Bool, List, map, length};
 ghost use Rattle.symbols.specs.Symbol.{◌⊻◌, has_bit};
 ghost use Rattle.codes.specs.Digits.{mask};
@@ -30,11 +30,9 @@ pub(crate) fn unpack(code: Code, packed: u64) -> [u8; ROOM]
 {
     let mut columns = [0u8; ROOM];
     let mut rest = packed << (4 * (ROOM - code.columns()));
-    let mut i = ROOM;
-    while 0 < i {
-        i -= 1;
+    for i in (0..ROOM).rev() {
         columns[i] = (rest % 16) as u8;
-        rest = rest / 16;
+        rest /= 16;
     }
     columns
 }
@@ -44,27 +42,27 @@ pub(crate) fn pack(code: Code, columns: [u8; ROOM]) -> u64
     ensures { result ≡ word_number (held (projection code) columns) }
 {
     let mut number: u64 = 0;
-    let mut i: usize = 0;
-    while i < code.columns() {
-        number = number * 16 + ((columns[i] % 16) as u64);
-        i += 1;
+    for column in &columns[..code.columns()] {
+        number = number * 16 + u64::from(*column % 16);
     }
     number
 }
 
-// What is handed on with one column more in front, column i, counted from 0. A column behind the code's last changes nothing.
-// There is room for one parity more.
-fn with_column(code: Code, walk: Walk, i: usize, column: u8) -> Walk
-    requires { (i < 10) × (walk.parities < 2 ^ 63) }
-    ensures { OneMore (projection code) i column walk result }
-{
-    if code.columns() <= i {
-        return walk;
-    }
-    Walk {
-        parities: walk.parities * 2 + (symbols::one(symbols::parity(column)) as u64),
-        top: walk.top ^ symbols::top(column),
-        syndrome: walk.syndrome ^ multiple(multiples(code, i), symbols::value(column)),
+impl Walk {
+    // What is handed on with one column more in front, column i, counted from 0. A column behind the code's last changes nothing.
+    // There is room for one parity more.
+    fn with_column(self, code: Code, i: usize, column: u8) -> Walk
+        requires { (i < 10) × (self.parities < 2 ^ 63) }
+        ensures { OneMore (projection code) i column self result }
+    {
+        if code.columns() <= i {
+            return self;
+        }
+        Walk {
+            parities: self.parities * 2 + u64::from(symbols::parity(column)),
+            top: self.top ^ symbols::top(column),
+            syndrome: self.syndrome ^ multiple(multiples(code, i), symbols::value(column)),
+        }
     }
 }
 
@@ -77,10 +75,8 @@ fn walk_columns(code: Code, columns: [u8; ROOM]) -> Walk
         top: false,
         syndrome: 0,
     };
-    let mut i = ROOM;
-    while 0 < i {
-        i -= 1;
-        walk = with_column(code, walk, i, columns[i]);
+    for i in (0..ROOM).rev() {
+        walk = walk.with_column(code, i, columns[i]);
     }
     walk
 }

@@ -3,38 +3,21 @@
 
 ghost use Rattle.std.specs.Prelude.{◌≤◌, ◌<◌};
 
-use codes::{Decoded, Encoded};
 use std::io;
 
-// Writes a text.
-fn text(rt: &impl Print, text: &str) -> io::Result<()> {
-    rt.print(text)
-}
-
-// A number after its name.
-fn named(rt: &impl Print, name: &str, n: u64) -> io::Result<()> {
-    print!(rt; "{name}{n}")
-}
-
-// A number in hexadecimal after its name, so many digits wide.
-fn named_hex(rt: &impl Print, name: &str, n: u64, width: usize) -> io::Result<()> {
-    print!(rt; "{name}{n:0width$x}")
-}
-
-// The columns of a code's words, a digit each.
+// The columns of a code's words, a hexadecimal digit each.
 fn columns(code: u64) -> usize {
     if code <= 2 { 9 } else { 10 }
 }
 
-// An answer on a line: the word in hexadecimal, or the refusal.
+// Writes a message, and the answer on a line: the word in hexadecimal, or the refusal.
 fn write(rt: &impl Print, code: u64, message: u64) -> io::Result<()> {
-    named(rt, "code ", code)?;
-    named(rt, " writes ", message)?;
+    let width = columns(code);
+    print!(rt; "code {code} writes {message}: ")?;
     match codes::encode(code, message) {
-        Encoded::Word(w) => named_hex(rt, ": ", w, columns(code))?,
-        Encoded::Refused(r) => named(rt, ": refused ", r.number())?,
+        Ok(word) => println!(rt; "{word:0width$x}"),
+        Err(refusal) => println!(rt; "refused {}", refusal.number()),
     }
-    text(rt, "\n")
 }
 
 // Writes each message that has a value in one free column and zeros elsewhere, in column order. The free columns' bits stand above the
@@ -49,62 +32,31 @@ fn write_free(rt: &impl Print, code: u64, value: u64, tops: u64, columns: u64) -
     Ok(())
 }
 
-// A strict reading on a line: the message, or the refusal.
+// Reads a word strictly, and the answer on a line: the message, or the refusal.
 fn read(rt: &impl Print, code: u64, word: u64) -> io::Result<()> {
-    named(rt, "code ", code)?;
-    named_hex(rt, " reads ", word, columns(code))?;
+    let width = columns(code);
+    print!(rt; "code {code} reads {word:0width$x}: ")?;
     match codes::decode(code, word) {
-        Decoded::Message(m) => named(rt, ": ", m)?,
-        Decoded::Refused(r) => named(rt, ": refused ", r.number())?,
+        Ok(message) => println!(rt; "{message}"),
+        Err(refusal) => println!(rt; "refused {}", refusal.number()),
     }
-    text(rt, "\n")
 }
 
 // Whether a message comes back from its codeword.
 fn comes_back(code: u64, message: u64) -> bool {
-    let Encoded::Word(w) = codes::encode(code, message) else {
-        return false;
-    };
-    let Decoded::Message(m) = codes::decode(code, w) else {
-        return false;
-    };
-    m == message
+    codes::encode(code, message).and_then(|word| codes::decode(code, word)) == Ok(message)
 }
 
-// How many of the messages below a limit, a stride apart, come back.
-fn back(code: u64, limit: u64, stride: u64) -> u64
-    requires small_limit { limit ≤ 4194304 }
-    requires some_stride { 0 < stride }
-    requires small_stride { stride ≤ 64 }
+// Tries the messages of a code below a limit, a stride apart, and writes how many come back.
+fn report(rt: &impl Print, code: u64, limit: u64, stride: usize) -> io::Result<()>
+    requires { 0 < stride }
 {
-    let mut message: u64 = 0;
-    let mut count: u64 = 0;
-    while message < limit {
-        count = count + counted(comes_back(code, message));
-        message += stride;
-    }
-    count
-}
-
-// 1 where it is so, otherwise 0.
-fn counted(bit: bool) -> u64
-    ensures { result ≤ 1 }
-{
-    if bit { 1 } else { 0 }
-}
-
-// Tries messages of a code, and writes how many come back.
-fn report(rt: &impl Print, code: u64, limit: u64, stride: u64) -> io::Result<()>
-    requires small_limit { limit ≤ 4194304 }
-    requires some_stride { 0 < stride }
-    requires small_stride { stride ≤ 64 }
-{
-    named(rt, "code ", code)?;
-    named(rt, ", messages below ", limit)?;
-    named(rt, ", each ", stride)?;
-    named(rt, ": back ", back(code, limit, stride))?;
-    named(rt, " of ", (limit + stride - 1) / stride)?;
-    text(rt, "\n")
+    let tried = (0..limit).step_by(stride).count();
+    let back = (0..limit)
+        .step_by(stride)
+        .filter(|message| comes_back(code, *message))
+        .count();
+    println!(rt; "code {code}, messages below {limit}, each {stride}: back {back} of {tried}")
 }
 
 fn main(rt: HostRuntime) -> io::Result<()> {

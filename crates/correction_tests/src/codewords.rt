@@ -4,21 +4,25 @@ ghost use Rattle.std.specs.Prelude.{◌<◌};
 
 use crate::words::{columns, message_bits, ones};
 
-// The rows of H, a line each. The nine-column matrix has a tenth column of zeros.
-const H_36: [u8; 40] = *b"\
-    1000113010\
-    0100102310\
-    0010231210\
-    0001130130";
+// The rows of H. The nine-column matrix has a tenth column of zeros.
+type Matrix = [[u8; 10]; 4];
 
-const H_40: [u8; 40] = *b"\
-    1111000000\
-    0000111100\
-    3210321010\
-    2310231001";
+const H_36: Matrix = [
+    *b"1000113010",
+    *b"0100102310",
+    *b"0010231210",
+    *b"0001130130",
+];
+
+const H_40: Matrix = [
+    *b"1111000000",
+    *b"0000111100",
+    *b"3210321010",
+    *b"2310231001",
+];
 
 // The check matrix of a code.
-fn matrix(code: u64) -> [u8; 40] {
+fn matrix(code: u32) -> Matrix {
     if code <= 2 { H_36 } else { H_40 }
 }
 
@@ -43,18 +47,16 @@ fn product(digit: u8, symbol: u64) -> u64 {
 }
 
 // A row of H times the values: a sum of symbols is their exclusive or.
-fn row_times(matrix: &[u8; 40], row: usize, values: [u64; 10]) -> u64
-    requires { row < 4 }
-{
-    let mut sum: u64 = 0;
-    for c in 0..10 {
-        sum = sum ^ product(matrix[10 * row + c], values[c]);
+fn row_times(row: &[u8; 10], values: &[u64; 10]) -> u64 {
+    let mut sum = 0;
+    for (digit, value) in row.iter().zip(values) {
+        sum ^= product(*digit, *value);
     }
     sum
 }
 
 // Whether a column, counted from 0, is free: columns 5 to 9, or 1, 2, 3, 5, 6, 7, counted from 1.
-fn is_free(code: u64, c: usize) -> bool {
+fn is_free(code: u32, c: usize) -> bool {
     if code <= 2 {
         4 <= c
     } else {
@@ -63,20 +65,20 @@ fn is_free(code: u64, c: usize) -> bool {
 }
 
 // The free columns' values, two bits of the message each, in column order above the top bits. The other values are left 0.
-fn free_values(code: u64, message: u64) -> [u64; 10] {
+fn free_values(code: u32, message: u64) -> [u64; 10] {
     let mut values = [0u64; 10];
     let mut rest = message >> (columns(code) - 1);
     for c in (0..columns(code)).rev() {
         if is_free(code, c) {
             values[c] = rest % 4;
-            rest = rest / 4;
+            rest /= 4;
         }
     }
     values
 }
 
 // The column that is not free and has a one in a row of H, the only one of its kind in that row.
-fn other(code: u64, row: usize) -> usize
+fn other(code: u32, row: usize) -> usize
     requires { row < 4 }
     ensures { result < 10 }
 {
@@ -92,18 +94,17 @@ fn other(code: u64, row: usize) -> usize
 }
 
 // All columns' values. The syndrome is zero where each other value is the sum of its row over the free columns.
-fn values(code: u64, message: u64) -> [u64; 10] {
-    let matrix = matrix(code);
+fn values(code: u32, message: u64) -> [u64; 10] {
     let free = free_values(code, message);
     let mut values = free;
-    for row in 0..4 {
-        values[other(code, row)] = row_times(&matrix, row, free);
+    for (row, digits) in matrix(code).iter().enumerate() {
+        values[other(code, row)] = row_times(digits, &free);
     }
     values
 }
 
 // The top row: the message's lowest 8 or 9 bits, and behind them the bit that makes its parity p (codes 1 and 3) or 0 (codes 2 and 4).
-fn top_row(code: u64, p: u64, message: u64) -> u64 {
+fn top_row(code: u32, p: u64, message: u64) -> u64 {
     let given = if code <= 2 {
         message % 256
     } else {
@@ -131,14 +132,14 @@ fn column(parity: u64, value: u64, top: u64) -> u64 {
 }
 
 // The codeword of a message.
-pub(crate) fn codeword(code: u64, message: u64) -> u64 {
+pub(crate) fn codeword(code: u32, message: u64) -> u64 {
     let m = columns(code);
     let p = (message >> (message_bits(code) - 1)) % 2;
     let values = values(code, message);
     let tops = top_row(code, p, message);
     let mut word: u64 = 0;
-    for c in 0..m {
-        word = (word << 4) | column(p, values[c], (tops >> (m - 1 - c)) % 2);
+    for (c, value) in values[..m].iter().enumerate() {
+        word = (word << 4) | column(p, *value, (tops >> (m - 1 - c)) % 2);
     }
     word
 }

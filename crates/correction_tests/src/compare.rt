@@ -1,147 +1,111 @@
-// The library's answers, compared with what the search found. An outcome says which answer was given where it is the right one, and
-// otherwise that it is another.
-ghost use Rattle.std.specs.Prelude.{◌≤◌, length};
-
+// The library's answers, compared with what the search found, and with what the calls say.
 use crate::codewords::codeword;
-use crate::lists::{ALL, LISTS, Trial, read, slot};
-use crate::samples::SAMPLES;
-use crate::search::{Found, WORDS, counted};
-use crate::slots::{Answer, Call, Slot};
-use crate::words::{READINGS, WIDEST, least, ones, sum, wrong};
-use codes::{Corrected, Decoded};
-use trace::ReadAnswer;
+use crate::lists::{ALL, Left};
+use crate::search::{Near, Tried};
+use crate::slots::{Answer, BLANK, Call, Group, group_of};
+use crate::words::{READINGS, Word, ones};
+use trace::Reading;
 
-// The outcome of an answer that is not the right one: no sum, refusal or group has this number.
-pub(crate) const DISAGREES: u64 = 99;
+// Why a word call is refused, by the scope's numbers.
+const NOT_A_CODEWORD: u64 = 4;
 
-// The outcome of a load that is rightly accepted: this and its count.
-pub(crate) const LOADED: u64 = 100;
+const NONE_NEAR: u64 = 5;
 
-// The outcome of a right refusal of a word: no sum up to 7 has this number.
-pub(crate) const REFUSED: u64 = 8;
+// Another answer was given than the right one.
+#[derive(Clone, Copy, PartialEq, Eq)]
+pub(crate) struct Disagrees;
 
-// What `correct` and `decode` give for each word.
-#[derive(Clone, Copy)]
-pub(crate) struct Outcomes {
-    pub corrected: [u64; WORDS],
-    pub decoded: [u64; WORDS],
+// What the right answer says, where it was given.
+pub(crate) type Outcome<T> = Result<T, Disagrees>;
+
+// What a call answered.
+#[derive(Clone, Copy, PartialEq, Eq)]
+pub(crate) enum Answered {
+    Accepted,
+    // A load was accepted, of so many positions.
+    Loaded(u64),
+    // The refusal's number.
+    Refused(u64),
 }
 
-// The outcome of a call that is rightly accepted: 0 but for a load.
-fn accepted_outcome(call: Call) -> u64 {
-    match call {
-        Call::Load(_, count) => LOADED + least(count, WIDEST),
-        _ => 0,
-    }
+// The outcome of an answer, by whether it is the right one.
+fn outcome<T: Copy>(agrees: bool, answered: T) -> Outcome<T> {
+    if agrees { Ok(answered) } else { Err(Disagrees) }
 }
 
-// The outcome of a call, which is right where its answer is, and all slots' bytes after it: the refusal's number where it is refused.
-pub(crate) fn call_outcome(call: Call, answer: Answer, due: Answer, bytes_agree: bool) -> u64 {
-    let agrees = answer.refusal == due.refusal && answer.number == due.number && bytes_agree;
-    if !agrees {
-        return DISAGREES;
-    }
-    if due.refusal != 0 {
-        return due.refusal;
-    }
-    accepted_outcome(call)
+// The outcome of a call, which is right where its answer is, and all slots' bytes after it.
+pub(crate) fn call_outcome(
+    call: Call,
+    answer: Answer,
+    due: Answer,
+    bytes_agree: bool,
+) -> Outcome<Answered> {
+    let answered = match (due, call) {
+        (Err(refusal), _) => Answered::Refused(refusal),
+        (Ok(_), Call::Load(_, count)) => Answered::Loaded(count),
+        (Ok(_), _) => Answered::Accepted,
+    };
+    outcome(answer == due && bytes_agree, answered)
 }
 
-// The outcome of `correct`: the sum of the near codeword that the search found.
-fn correct_outcome(code: u64, word: u64, marks: u64, near: u64, kept: u64) -> u64 {
-    match codes::correct(code, word, marks) {
-        Corrected::Near(c) => {
-            let agrees = near == 1
-                && c.message == kept
-                && c.codeword == codeword(code, kept)
-                && c.wrong == wrong(c.codeword, word, marks)
-                && c.marks == ones(marks);
-            if agrees {
-                sum(c.codeword, word, marks)
-            } else {
-                DISAGREES
-            }
+// The outcome of `correct`: the sum of the near codeword that the search found, or nothing where it found none.
+pub(crate) fn correct_outcome(code: u32, tried: Tried) -> Outcome<Option<u64>> {
+    let word = tried.word;
+    let answer = codes::correct(u64::from(code), word.bits, word.marks);
+    match (answer, tried.near) {
+        (Ok(c), Near::One(message)) => {
+            let agrees = c.message == message
+                && c.codeword == codeword(code, message)
+                && c.wrong == word.wrong(c.codeword)
+                && c.marks == ones(word.marks);
+            outcome(agrees, Some(word.sum(c.codeword)))
         }
-        Corrected::Refused(r) => if near == 0 && r.number() == 5 {
-            REFUSED
-        } else {
-            DISAGREES
-        },
+        (Err(refusal), Near::None) => outcome(refusal.number() == NONE_NEAR, None),
+        _ => Err(Disagrees),
     }
 }
 
-// The outcome of `decode`: 0 where the search found the message's codeword equal to the word.
-fn decode_outcome(code: u64, word: u64, equal: u64) -> u64 {
-    match codes::decode(code, word) {
-        Decoded::Message(m) => if equal != 0 && m == equal - 1 {
-            0
-        } else {
-            DISAGREES
-        },
-        Decoded::Refused(r) => if equal == 0 && r.number() == 4 {
-            REFUSED
-        } else {
-            DISAGREES
-        },
+// The outcome of `decode`: whether the word is a codeword, which it is where the search found one equal to it.
+pub(crate) fn decode_outcome(code: u32, tried: Tried) -> Outcome<bool> {
+    let answer = codes::decode(u64::from(code), tried.word.bits);
+    match (answer, tried.equal) {
+        (Ok(message), Some(equal)) => outcome(message == equal, true),
+        (Err(refusal), None) => outcome(refusal.number() == NOT_A_CODEWORD, false),
+        _ => Err(Disagrees),
     }
 }
 
-// Whether a read gives what the search found, and the refusal of a blank slot.
-fn read_agrees(answer: ReadAnswer, code: u64, slot: Slot, near: u64, kept: u64) -> bool {
-    match answer {
-        ReadAnswer::Corrected(v) => slot.written
-            && near == 1
-            && v.step == kept / READINGS
-            && v.reading == kept % READINGS
-            && v.wrong == wrong(codeword(code, kept), slot.word, slot.marks)
-            && v.marks == ones(slot.marks),
-        ReadAnswer::Refused(r) => if slot.written {
-            near == 0 && r.number() == 5
-        } else {
-            r.number() == 11
-        },
-    }
+// Whether a read gives a message, at its word.
+fn is_reading(reading: Reading, code: u32, message: u64, word: Word) -> bool {
+    reading.step == message / READINGS
+        && reading.reading == message % READINGS
+        && reading.wrong == word.wrong(codeword(code, message))
+        && reading.marks == ones(word.marks)
 }
 
-// The outcomes of `correct` and `decode` for each word.
-pub(crate) fn word_outcomes(
-    code: u64,
-    words: &[u64; WORDS],
-    marks: &[u64; WORDS],
-    found: Found,
-) -> Outcomes {
-    let mut corrected = [0u64; WORDS];
-    let mut decoded = [0u64; WORDS];
-    for j in 0..WORDS {
-        corrected[j] = correct_outcome(code, words[j], marks[j], found.near[j], found.kept[j]);
-        decoded[j] = decode_outcome(code, words[j], found.equal[j]);
-    }
-    Outcomes {
-        corrected: corrected,
-        decoded: decoded,
-    }
+// The outcome of a read: the slot's group, where the read gives what the search found, or the refusal of a blank slot.
+fn read_outcome(code: u32, left: Left, near: Near) -> Outcome<Group> {
+    let agrees = match (left.read, left.slot, near) {
+        (Ok(reading), Some(written), Near::One(message)) => {
+            is_reading(reading, code, message, written.word)
+        }
+        (Err(refusal), Some(_), Near::None) => refusal.number() == NONE_NEAR,
+        (Err(refusal), None, _) => refusal.number() == BLANK,
+        _ => false,
+    };
+    outcome(agrees, group_of(left.slot, code))
 }
 
 // The outcome of a read of each slot: the slot's group.
-pub(crate) fn read_outcomes(code: u64, trials: [Trial; LISTS], found: Found) -> [u64; ALL] {
-    let mut outcomes = [0u64; ALL];
-    for j in 0..ALL {
-        let near = found.near[SAMPLES + j];
-        let kept = found.kept[SAMPLES + j];
-        let slot = slot(trials, j);
-        let agrees = read_agrees(read(trials, j), code, slot, near, kept);
-        outcomes[j] = if agrees { slot.group(code) } else { DISAGREES };
+pub(crate) fn read_outcomes(code: u32, left: &[Left], tried: &[Tried]) -> [Outcome<Group>; ALL] {
+    let mut outcomes = [Err(Disagrees); ALL];
+    for (outcome, (left, tried)) in outcomes.iter_mut().zip(left.iter().zip(tried)) {
+        *outcome = read_outcome(code, *left, tried.near);
     }
     outcomes
 }
 
-// How many of the numbers are a certain one.
-pub(crate) fn count(numbers: &[u64], wanted: u64) -> u64
-    ensures { result ≤ length numbers.now }
-{
-    let mut count: u64 = 0;
-    for number in numbers {
-        count = count + counted(*number == wanted);
-    }
-    count
+// How many of the outcomes are a certain one.
+pub(crate) fn count<T: PartialEq>(outcomes: &[T], wanted: &T) -> usize {
+    outcomes.iter().filter(|outcome| *outcome == wanted).count()
 }

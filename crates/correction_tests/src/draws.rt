@@ -1,31 +1,21 @@
 // A fixed generator of numbers, the one that the rule of the fault load names.
 ghost use Rattle.std.specs.Prelude.{◌≤◌, ◌<◌};
 
-// The generator's next number.
-pub(crate) fn draw(state: u64) -> u64
-    ensures { result < 4294967296 }
-{
-    (state % 4294967296 * 1664525 + 1013904223) % 4294967296
-}
-
-// A number's remainder.
-pub(crate) fn remainder(number: u64, limit: u64) -> u64
-    requires { 0 < limit }
-    ensures { result < limit }
-{
-    number % limit
+// The generator's next number, by plain arithmetic.
+pub(crate) fn draw(state: u32) -> u32 {
+    ((u64::from(state) * 1664525 + 1013904223) % 4294967296) as u32
 }
 
 // A number below a limit, from the high bits of one that was drawn: the low bits repeat soon.
-pub(crate) fn below(drawn: u64, limit: u64) -> u64
+pub(crate) fn below(drawn: u32, limit: u64) -> u64
     requires { 0 < limit }
     ensures { result < limit }
 {
-    remainder(drawn / 65536, limit)
+    u64::from(drawn / 65536) % limit
 }
 
 // A number below a limit, or one time in nine a number from the limit on.
-pub(crate) fn about(drawn: u64, limit: u64) -> u64
+pub(crate) fn about(drawn: u32, limit: u64) -> u64
     requires some_limit { 0 < limit }
     requires small_limit { limit ≤ 4096 }
 {
@@ -37,22 +27,20 @@ pub(crate) fn about(drawn: u64, limit: u64) -> u64
         0 => limit,
         1 => limit + 1,
         2 => 2 * limit,
-        _ => 18446744073709551615,
+        _ => u64::MAX,
     }
 }
 
 // A number of so many bits: the high halves of two that are drawn after a state, joined.
-pub(crate) fn wide(state: u64, bits: u64) -> u64
+pub(crate) fn wide(state: u32, bits: u64) -> u64
     requires { bits ≤ 40 }
 {
     let first = draw(state);
     let second = draw(first);
-    (((first >> 12) << 20) | (second >> 12)) >> (40 - bits)
+    ((u64::from(first >> 12) << 20) | u64::from(second >> 12)) >> (40 - bits)
 }
 
 // A state whose numbers are other ones than those that follow this state.
-pub(crate) fn another(state: u64) -> u64
-    ensures { result < 4294967296 }
-{
+pub(crate) fn another(state: u32) -> u32 {
     draw(state ^ 0x5DEECE66)
 }

@@ -1,26 +1,21 @@
 // Random lists of trace calls, each on a trace of its own: kind, slot and numbers of every call are drawn. Slots, steps, readings,
 // positions and counts are drawn beyond their limits too, and blank slots are flipped, marked and loaded, so that refused calls stand
 // anywhere. Each call's answer, and the bytes of all slots after it, are compared with what they should be.
-ghost use Rattle.std.specs.Prelude.{◌<◌};
-
-use crate::compare::call_outcome;
+use crate::compare::{Answered, Disagrees, Outcome, call_outcome};
 use crate::draws::{about, another, below, draw};
-use crate::samples::SAMPLES;
-use crate::search::WORDS;
-use crate::slots::{Answer, Call, Slot};
+use crate::slots::{Answer, Call, NO_SLOT, Slot, after, bytes};
 use crate::words::{READINGS, steps, width};
-use trace::{Done, LoadAnswer, ReadAnswer};
+use std::array;
+use trace::{Reading, Refusal};
 
-// The lists of a code, the calls of a list, and those of all lists.
+// The lists of a code, and the calls of a list.
 pub(crate) const LISTS: usize = 4;
 
 const CALLS: usize = 400;
 
-pub(crate) const ALL_CALLS: usize = LISTS * CALLS;
-
 // With this seed the lists of each code leave slots with every sum from 0 to 10, and some that are read as another message; and loads of no
 // to four positions and of all are accepted, and larger ones refused.
-const SEED: u64 = 324501;
+const SEED: u32 = 324501;
 
 // The slots of a trace.
 const SLOTS: usize = 13;
@@ -31,21 +26,35 @@ const BYTES: usize = trace::SLOT * SLOTS + trace::TRAILER;
 // The slots of all lists.
 pub(crate) const ALL: usize = LISTS * SLOTS;
 
-// A trace after a list of calls, and its slots as they should be then.
+// A slot as it should be after a list of calls, and what a read of it answers.
 #[derive(Clone, Copy)]
-pub(crate) struct Trial {
+pub(crate) struct Left {
+    pub slot: Slot,
+    pub read: Result<Reading, Refusal>,
+}
+
+// A list that was played: each call's outcome, and what the list leaves in the slots.
+#[derive(Clone, Copy)]
+pub(crate) struct List {
+    pub calls: [Outcome<Answered>; CALLS],
+    pub left: [Left; SLOTS],
+}
+
+// A trace, and its slots as they should be.
+#[derive(Clone, Copy)]
+struct Trial {
     bytes: [u8; BYTES],
     slots: [Slot; SLOTS],
 }
 
 // A load's seed, from a number that was drawn: its own draws are then other numbers than those that the list draws.
-fn seed(drawn: u64) -> u32 {
-    another(drawn) as u32
+fn seed(drawn: u32) -> u32 {
+    another(drawn)
 }
 
 // The call that three drawn numbers give. Of 64 kinds eight put, one clears, four flip anywhere, 24 flip in the first eight positions,
 // which lead to another codeword, two load any number of positions, four load no to four, and the others mark.
-fn call_from(code: u64, kind: u64, first: u64, second: u64) -> Call {
+fn call_from(code: u32, kind: u32, first: u32, second: u32) -> Call {
     match below(kind, 64) {
         0..=7 => Call::Put(about(first, steps(code)), about(second, READINGS)),
         8 => Call::Clear,
@@ -57,135 +66,81 @@ fn call_from(code: u64, kind: u64, first: u64, second: u64) -> Call {
     }
 }
 
-// The answer of a put, flip, mark or clear.
-fn done(answer: Done) -> Answer {
-    match answer {
-        Done::Accepted => Answer::plain(0),
-        Done::Refused(r) => Answer::plain(r.number()),
-    }
-}
-
-// The answer of a load.
-fn loaded(answer: LoadAnswer) -> Answer {
-    match answer {
-        LoadAnswer::Loaded(number) => Answer {
-            refusal: 0,
-            number: number as u64,
-        },
-        LoadAnswer::Refused(r) => Answer::plain(r.number()),
-    }
-}
-
-// Makes a call.
-fn make_call(b: &mut [u8; BYTES], slot: u64, call: Call) -> Answer {
-    match call {
-        Call::Put(step, reading) => done(trace::put(b, slot, step, reading)),
-        Call::Clear => done(trace::clear(b, slot)),
-        Call::Flip(position) => done(trace::flip(b, slot, position)),
-        Call::Mark(position) => done(trace::mark(b, slot, position)),
-        Call::Load(seed, count) => loaded(trace::load(b, slot, seed, count)),
-    }
-}
-
-// What a call should answer: refusal 9, or what the slot says.
-fn answer(slots: [Slot; SLOTS], slot: u64, code: u64, call: Call) -> Answer {
-    if SLOTS as u64 <= slot {
-        return Answer::plain(9);
-    }
-    slots[slot as usize].answer(code, call)
-}
-
-// The slots as they should be after a call.
-fn after(slots: [Slot; SLOTS], slot: u64, code: u64, call: Call) -> [Slot; SLOTS] {
-    if SLOTS as u64 <= slot {
-        return slots;
-    }
-    let mut changed = slots;
-    changed[slot as usize] = slots[slot as usize].after(code, call);
-    changed
-}
-
-// A byte as a number.
-fn wide(x: u8) -> u64 {
-    x as u64
-}
-
-// Whether the bytes of all slots are as they should be.
-fn bytes_agree(b: &[u8; BYTES], slots: [Slot; SLOTS]) -> bool {
-    for i in 0..trace::SLOT * SLOTS {
-        if wide(b[i]) != slots[i / trace::SLOT].byte((i % trace::SLOT) as u64) {
-            return false;
+impl Trial {
+    // A trace of blank slots.
+    fn new(code: u32) -> Trial {
+        let mut bytes = [0u8; BYTES];
+        let _ = trace::make(&mut bytes, u64::from(code), SLOTS as u64);
+        Trial {
+            bytes,
+            slots: [None; SLOTS],
         }
     }
-    true
+
+    // Makes a call.
+    fn make_call(&mut self, slot: u64, call: Call) -> Answer {
+        let b = &mut self.bytes;
+        let answer = match call {
+            Call::Put(step, reading) => trace::put(b, slot, step, reading).map(|()| None),
+            Call::Clear => trace::clear(b, slot).map(|()| None),
+            Call::Flip(position) => trace::flip(b, slot, position).map(|()| None),
+            Call::Mark(position) => trace::mark(b, slot, position).map(|()| None),
+            Call::Load(seed, count) => trace::load(b, slot, seed, count).map(Some),
+        };
+        answer.map_err(|refusal| refusal.number())
+    }
+
+    // What a call should answer. The slot is then as it should be after the call.
+    fn due(&mut self, slot: u64, code: u32, call: Call) -> Answer {
+        let slot = self.slots.get_mut(slot as usize).ok_or(NO_SLOT)?;
+        let (changed, number) = after(*slot, code, call)?;
+        *slot = changed;
+        Ok(number)
+    }
+
+    // Whether the bytes of all slots are as they should be.
+    fn bytes_agree(&self) -> bool {
+        for (stored, slot) in self.bytes.chunks_exact(trace::SLOT).zip(&self.slots) {
+            if stored != bytes(*slot).as_slice() {
+                return false;
+            }
+        }
+        true
+    }
+
+    // What is in each slot.
+    fn left(&self) -> [Left; SLOTS] {
+        array::from_fn(|place| Left {
+            slot: self.slots[place],
+            read: trace::read(&self.bytes, place as u64),
+        })
+    }
 }
 
-// Makes a trace and the calls of a list, and keeps each call's outcome.
-fn run(code: u64, list: usize, outcomes: &mut [u64; ALL_CALLS]) -> Trial
-    requires { list < 4 }
-{
-    let mut bytes = [0u8; BYTES];
-    let mut slots = [Slot::blank(); SLOTS];
-    trace::make(&mut bytes, code, SLOTS as u64);
-    let mut state = draw(code) + SEED + (list as u64);
-    for made in 0..CALLS {
+// Makes the trace and the calls of a list.
+fn play(code: u32, list: u32) -> List {
+    let mut trial = Trial::new(code);
+    let mut calls = [Err(Disagrees); CALLS];
+    let mut state = draw(code).wrapping_add(SEED).wrapping_add(list);
+    for outcome in calls.iter_mut() {
         let kind = draw(state);
         let place = draw(kind);
         let first = draw(place);
         let second = draw(first);
         let call = call_from(code, kind, first, second);
         let slot = about(place, SLOTS as u64);
-        let due = answer(slots, slot, code, call);
-        let answered = make_call(&mut bytes, slot, call);
-        let changed = after(slots, slot, code, call);
-        let agree = bytes_agree(&bytes, changed);
-        outcomes[CALLS * list + made] = call_outcome(call, answered, due, agree);
-        slots = changed;
+        let answer = trial.make_call(slot, call);
+        let due = trial.due(slot, code, call);
+        *outcome = call_outcome(call, answer, due, trial.bytes_agree());
         state = second;
     }
-    Trial {
-        bytes: bytes,
-        slots: slots,
+    List {
+        calls,
+        left: trial.left(),
     }
 }
 
-// Makes the trace and the calls of every list.
-pub(crate) fn run_all(code: u64, outcomes: &mut [u64; ALL_CALLS]) -> [Trial; LISTS] {
-    [
-        run(code, 0, outcomes),
-        run(code, 1, outcomes),
-        run(code, 2, outcomes),
-        run(code, 3, outcomes),
-    ]
-}
-
-// A slot as it should be, counted through all traces.
-pub(crate) fn slot(trials: [Trial; LISTS], j: usize) -> Slot
-    requires { j < 52 }
-{
-    let trial = trials[j / SLOTS];
-    trial.slots[j % SLOTS]
-}
-
-// Reads a slot of a trace.
-fn read_slot(b: &[u8; BYTES], slot: u64) -> ReadAnswer {
-    trace::read(b, slot)
-}
-
-// Reads a slot, counted through all traces.
-pub(crate) fn read(trials: [Trial; LISTS], j: usize) -> ReadAnswer
-    requires { j < 52 }
-{
-    let trial = trials[j / SLOTS];
-    let bytes = trial.bytes;
-    read_slot(&bytes, (j % SLOTS) as u64)
-}
-
-// Puts the slots' words and marks behind the samples.
-pub(crate) fn append(trials: [Trial; LISTS], words: &mut [u64; WORDS], marks: &mut [u64; WORDS]) {
-    for j in 0..ALL {
-        let slot = slot(trials, j);
-        words[SAMPLES + j] = slot.word;
-        marks[SAMPLES + j] = slot.marks;
-    }
+// Plays each list of a code.
+pub(crate) fn play_all(code: u32) -> [List; LISTS] {
+    array::from_fn(|list| play(code, list as u32))
 }

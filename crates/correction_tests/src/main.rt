@@ -14,195 +14,166 @@ mod search;
 mod slots;
 mod words;
 
-ghost use Rattle.std.specs.Prelude.{◌≤◌, ◌<◌};
-
-use codes::{Corrected, Correction};
-use compare::{DISAGREES, LOADED, REFUSED, count};
-use lists::{ALL, ALL_CALLS};
-use samples::{FAULTS, FILLED, NOISE, SAMPLES};
-use search::{Found, WORDS, search};
+use compare::{
+    Answered, Disagrees, Outcome, correct_outcome, count, decode_outcome, read_outcomes,
+};
+use lists::{Left, play_all};
+use samples::{FAULTS, FILLED, NOISE, SAMPLES, samples};
+use search::{Tried, WORDS, search};
+use slots::Group;
 use std::io;
-use words::{columns, messages, width};
-
-// Writes a text.
-fn text(rt: &impl Print, text: &str) -> io::Result<()> {
-    rt.print(text)
-}
-
-// A number after its name.
-fn named(rt: &impl Print, name: &str, n: u64) -> io::Result<()> {
-    print!(rt; "{name}{n}")
-}
-
-// A number in hexadecimal after its name, so many digits wide.
-fn named_hex(rt: &impl Print, name: &str, n: u64, width: usize) -> io::Result<()> {
-    print!(rt; "{name}{n:0width$x}")
-}
+use words::{Word, columns, messages, ones, width};
 
 // An answer on a line.
-fn show(rt: &impl Print, code: u64, word: u64, marks: u64) -> io::Result<()> {
-    named(rt, "code ", code)?;
-    named_hex(rt, " mends ", word, columns(code))?;
-    named_hex(rt, " under ", marks, columns(code))?;
-    match codes::correct(code, word, marks) {
-        Corrected::Near(c) => show_near(rt, code, c)?,
-        Corrected::Refused(r) => named(rt, ": refused ", r.number())?,
+fn show(rt: &impl Print, code: u32, word: u64, marks: u64) -> io::Result<()> {
+    let digits = columns(code);
+    print!(rt; "code {code} mends {word:0digits$x} under {marks:0digits$x}: ")?;
+    match codes::correct(u64::from(code), word, marks) {
+        Ok(c) => println!(rt;
+            "{:0digits$x}, message {}, wrong {}, marks {}",
+            c.codeword, c.message, c.wrong, c.marks
+        ),
+        Err(refusal) => println!(rt; "refused {}", refusal.number()),
     }
-    text(rt, "\n")
 }
 
-// A codeword, its message and both counts.
-fn show_near(rt: &impl Print, code: u64, c: Correction) -> io::Result<()> {
-    named_hex(rt, ": ", c.codeword, columns(code))?;
-    named(rt, ", message ", c.message)?;
-    named(rt, ", wrong ", c.wrong)?;
-    named(rt, ", marks ", c.marks)
-}
-
-// How many of the numbers are the first one, the next and so on, to the last.
-fn show_counts(rt: &impl Print, numbers: &[u64], first: u64, last: u64) -> io::Result<()>
-    requires { last < 256 }
-{
-    for n in first..=last {
-        named(rt, " ", count(numbers, n))?;
-    }
-    Ok(())
-}
-
-// How many outcomes disagree, at a line's end.
-fn show_disagreements(rt: &impl Print, outcomes: &[u64]) -> io::Result<()> {
-    named(rt, ", disagreements ", count(outcomes, DISAGREES))?;
-    text(rt, "\n")
-}
-
-// How many messages the library encodes, and how many of them otherwise.
-fn show_encoded(rt: &impl Print, code: u64, otherwise: u64) -> io::Result<()> {
-    named(rt, "code ", code)?;
-    named(rt, " encode: messages ", messages(code))?;
-    named(rt, ", disagreements ", otherwise)?;
-    text(rt, "\n")
+// How many outcomes disagree.
+fn disagreements<T: PartialEq>(outcomes: &[Outcome<T>]) -> usize {
+    count(outcomes, &Err(Disagrees))
 }
 
 // What `decode` gives.
-fn show_decoded(rt: &impl Print, code: u64, outcomes: &[u64; WORDS]) -> io::Result<()> {
-    named(rt, "code ", code)?;
-    named(rt, " decode: read ", count(outcomes, 0))?;
-    named(rt, ", refused ", count(outcomes, REFUSED))?;
-    show_disagreements(rt, outcomes)
+fn show_decoded(rt: &impl Print, code: u32, outcomes: &[Outcome<bool>]) -> io::Result<()> {
+    println!(rt;
+        "code {code} decode: read {}, refused {}, disagreements {}",
+        count(outcomes, &Ok(true)),
+        count(outcomes, &Ok(false)),
+        disagreements(outcomes)
+    )
+}
+
+// How many words `correct` refuses.
+fn refused(outcomes: &[Outcome<Option<u64>>]) -> usize {
+    count(outcomes, &Ok(None))
 }
 
 // What `correct` gives, by the sum of the near codeword.
-fn show_corrected(rt: &impl Print, code: u64, outcomes: &[u64; WORDS]) -> io::Result<()> {
-    named(rt, "code ", code)?;
-    text(rt, " correct: mended by sum 0 to 7:")?;
-    show_counts(rt, outcomes, 0, 7)?;
-    named(rt, ", refused ", count(outcomes, REFUSED))?;
-    show_disagreements(rt, outcomes)
+fn show_corrected(rt: &impl Print, code: u32, outcomes: &[Outcome<Option<u64>>]) -> io::Result<()> {
+    print!(rt; "code {code} correct: mended by sum 0 to 7:")?;
+    for sum in 0..=7 {
+        print!(rt; " {}", count(outcomes, &Ok(Some(sum))))?;
+    }
+    println!(rt;
+        ", refused {}, disagreements {}",
+        refused(outcomes),
+        disagreements(outcomes)
+    )
 }
 
 // How many words of a part `correct` refuses, after the part's name.
-fn show_part(
-    rt: &impl Print,
-    name: &str,
-    outcomes: [u64; WORDS],
-    from: usize,
-    to: usize,
-) -> io::Result<()>
-    requires in_order { from ≤ to }
-    requires in_bounds { to ≤ 214 }
-{
-    named(rt, name, count(&outcomes[from..to], REFUSED))?;
-    named(rt, " of ", (to - from) as u64)
+fn show_part(rt: &impl Print, name: &str, outcomes: &[Outcome<Option<u64>>]) -> io::Result<()> {
+    print!(rt; "{name} {} of {}", refused(outcomes), outcomes.len())
 }
 
 // How many words of each kind `correct` refuses.
-fn show_kinds(rt: &impl Print, code: u64, outcomes: [u64; WORDS]) -> io::Result<()> {
-    named(rt, "code ", code)?;
-    show_part(
-        rt,
-        " correct: refused around codewords ",
-        outcomes,
-        0,
-        FILLED,
-    )?;
-    show_part(rt, ", marked ones or zeros ", outcomes, FILLED, FAULTS)?;
-    show_part(rt, ", faults ", outcomes, FAULTS, NOISE)?;
-    show_part(rt, ", noise ", outcomes, NOISE, SAMPLES)?;
-    show_part(rt, ", slots ", outcomes, SAMPLES, WORDS)?;
-    text(rt, "\n")
+fn show_kinds(
+    rt: &impl Print,
+    code: u32,
+    outcomes: &[Outcome<Option<u64>>; WORDS],
+) -> io::Result<()> {
+    print!(rt; "code {code} correct: refused ")?;
+    show_part(rt, "around codewords", &outcomes[..FILLED])?;
+    show_part(rt, ", marked ones or zeros", &outcomes[FILLED..FAULTS])?;
+    show_part(rt, ", faults", &outcomes[FAULTS..NOISE])?;
+    show_part(rt, ", noise", &outcomes[NOISE..SAMPLES])?;
+    show_part(rt, ", slots", &outcomes[SAMPLES..])?;
+    println!(rt; "")
 }
 
 // How many noise words have each number of marks.
-fn show_noise(rt: &impl Print, code: u64, mark_counts: [u64; WORDS]) -> io::Result<()> {
-    named(rt, "code ", code)?;
-    text(rt, " noise: words by marks 0 to 8:")?;
-    show_counts(rt, &mark_counts[NOISE..SAMPLES], 0, 8)?;
-    text(rt, "\n")
+fn show_noise(rt: &impl Print, code: u32, samples: [Word; SAMPLES]) -> io::Result<()> {
+    let marks = samples.map(|word| ones(word.marks));
+    print!(rt; "code {code} noise: words by marks 0 to 8:")?;
+    for wanted in 0..=8 {
+        print!(rt; " {}", count(&marks[NOISE..], &wanted))?;
+    }
+    println!(rt; "")
 }
 
 // What reads give, by the slot's group.
-fn show_reads(rt: &impl Print, code: u64, outcomes: &[u64; ALL]) -> io::Result<()> {
-    named(rt, "code ", code)?;
-    text(rt, " read: slots by sum 0 to 10:")?;
-    show_counts(rt, outcomes, 0, 10)?;
-    named(rt, ", above 10: ", count(outcomes, 11))?;
-    named(rt, ", blank: ", count(outcomes, 12))?;
-    show_disagreements(rt, outcomes)
+fn show_reads(rt: &impl Print, code: u32, outcomes: &[Outcome<Group>]) -> io::Result<()> {
+    print!(rt; "code {code} read: slots by sum 0 to 10:")?;
+    for sum in 0..=10 {
+        print!(rt; " {}", count(outcomes, &Ok(Group::Sum(sum))))?;
+    }
+    println!(rt;
+        ", above 10: {}, blank: {}, disagreements {}",
+        count(outcomes, &Ok(Group::Above)),
+        count(outcomes, &Ok(Group::Blank)),
+        disagreements(outcomes)
+    )
 }
 
 // How many calls of the lists are accepted, the loads by their count.
-fn show_accepted(rt: &impl Print, code: u64, outcomes: &[u64; ALL_CALLS]) -> io::Result<()> {
-    named(rt, "code ", code)?;
-    named(rt, " put, flip, mark, clear: accepted ", count(outcomes, 0))?;
-    named(rt, "; load: accepted by count 0 to ", width(code))?;
-    text(rt, ":")?;
-    show_counts(rt, outcomes, LOADED, LOADED + width(code))?;
-    text(rt, "\n")
+fn show_accepted(rt: &impl Print, code: u32, outcomes: &[Outcome<Answered>]) -> io::Result<()> {
+    let width = width(code);
+    print!(rt;
+        "code {code} put, flip, mark, clear: accepted {}; load: accepted by count 0 to {width}:",
+        count(outcomes, &Ok(Answered::Accepted))
+    )?;
+    for positions in 0..=width {
+        print!(rt; " {}", count(outcomes, &Ok(Answered::Loaded(positions))))?;
+    }
+    println!(rt; "")
 }
 
 // How many calls of the lists are refused, by the refusal's number.
-fn show_refused(rt: &impl Print, code: u64, outcomes: &[u64; ALL_CALLS]) -> io::Result<()> {
-    named(rt, "code ", code)?;
-    text(
-        rt,
-        " put, flip, mark, load, clear: refused by number 1 to 14:",
-    )?;
-    show_counts(rt, outcomes, 1, 14)?;
-    show_disagreements(rt, outcomes)
+fn show_refused(rt: &impl Print, code: u32, outcomes: &[Outcome<Answered>]) -> io::Result<()> {
+    print!(rt; "code {code} put, flip, mark, load, clear: refused by number 1 to 14:")?;
+    for refusal in 1..=14 {
+        print!(rt; " {}", count(outcomes, &Ok(Answered::Refused(refusal))))?;
+    }
+    println!(rt; ", disagreements {}", disagreements(outcomes))
 }
 
-// What `decode` and `correct` give for the words.
-fn show_tried(
-    rt: &impl Print,
-    code: u64,
-    words: &[u64; WORDS],
-    marks: &[u64; WORDS],
-    found: Found,
-) -> io::Result<()> {
-    let outcomes = compare::word_outcomes(code, words, marks, found);
-    let decoded = outcomes.decoded;
-    show_decoded(rt, code, &decoded)?;
-    let corrected = outcomes.corrected;
-    show_corrected(rt, code, &corrected)?;
-    show_kinds(rt, code, corrected)?;
-    show_noise(rt, code, samples::mark_counts(marks))
+// The words that are tried: the samples, and what the lists leave in slots. A blank slot has no ones and no marks.
+fn tried_words(samples: &[Word; SAMPLES], left: &[Left]) -> [Tried; WORDS] {
+    let mut tried = [Tried::new(Word { bits: 0, marks: 0 }); WORDS];
+    for (tried, sample) in tried.iter_mut().zip(samples) {
+        tried.word = *sample;
+    }
+    for (tried, left) in tried[SAMPLES..].iter_mut().zip(left) {
+        if let Some(written) = left.slot {
+            tried.word = written.word;
+        }
+    }
+    tried
 }
 
 // Tries a code.
-fn report(rt: &impl Print, code: u64) -> io::Result<()> {
-    let mut words = [0u64; WORDS];
-    let mut marks = [0u64; WORDS];
-    let mut called = [0u64; ALL_CALLS];
-    samples::prepare(code, &mut words, &mut marks);
-    let trials = lists::run_all(code, &mut called);
-    lists::append(trials, &mut words, &mut marks);
-    let found = search(code, &words, &marks);
-    show_encoded(rt, code, found.encoded_otherwise)?;
-    show_tried(rt, code, &words, &marks, found)?;
-    let read = compare::read_outcomes(code, trials, found);
-    show_reads(rt, code, &read)?;
-    show_accepted(rt, code, &called)?;
-    show_refused(rt, code, &called)
+fn report(rt: &impl Print, code: u32) -> io::Result<()> {
+    let samples = samples(code);
+    let lists = play_all(code);
+    let left = lists.map(|list| list.left);
+    let mut tried = tried_words(&samples, left.as_flattened());
+    let otherwise = search(code, &mut tried);
+    println!(rt;
+        "code {code} encode: messages {}, disagreements {otherwise}",
+        messages(code)
+    )?;
+    show_decoded(rt, code, &tried.map(|tried| decode_outcome(code, tried)))?;
+    let corrected = tried.map(|tried| correct_outcome(code, tried));
+    show_corrected(rt, code, &corrected)?;
+    show_kinds(rt, code, &corrected)?;
+    show_noise(rt, code, samples)?;
+    show_reads(
+        rt,
+        code,
+        &read_outcomes(code, left.as_flattened(), &tried[SAMPLES..]),
+    )?;
+    let calls = lists.map(|list| list.calls);
+    show_accepted(rt, code, calls.as_flattened())?;
+    show_refused(rt, code, calls.as_flattened())
 }
 
 // The scope's words to try, and words of believable faults.
@@ -222,14 +193,14 @@ fn show_unfit(rt: &impl Print) -> io::Result<()> {
     show(rt, 1, 0, 0x1000000000)?;
     show(rt, 0, 0, 0)?;
     show(rt, 5, 0, 0)?;
-    show(rt, 3, 0x10000000000, 18446744073709551615)
+    show(rt, 3, 0x10000000000, u64::MAX)
 }
 
 fn main(rt: HostRuntime) -> io::Result<()> {
     show_words(&rt)?;
     show_unfit(&rt)?;
-    report(&rt, 1)?;
-    report(&rt, 2)?;
-    report(&rt, 3)?;
-    report(&rt, 4)
+    for code in 1..=4 {
+        report(&rt, code)?;
+    }
+    Ok(())
 }

@@ -1,86 +1,63 @@
 // The search through all codewords. They are this program's own, and what the library encodes is compared with them.
-ghost use Rattle.std.specs.Prelude.{◌≤◌, ◌<◌};
-
 use crate::codewords::codeword;
 use crate::lists::ALL;
 use crate::samples::SAMPLES;
-use crate::words::{is_near, messages};
-use codes::Encoded;
+use crate::words::{Word, messages};
 
 // The words that are tried: the samples, and behind them what the lists leave in slots.
 pub(crate) const WORDS: usize = SAMPLES + ALL;
 
-// What the search found for each word: how many codewords are near, 0, 1, or 2 for more than one, and the message of the last of them;
-// and 1 more than the message of the codeword that equals the word, or 0. Then how many messages the library encodes otherwise.
+// The codewords that are near a word, by their messages.
 #[derive(Clone, Copy)]
-pub(crate) struct Found {
-    pub near: [u64; WORDS],
-    pub kept: [u64; WORDS],
-    pub equal: [u64; WORDS],
-    pub encoded_otherwise: u64,
+pub(crate) enum Near {
+    None,
+    One(u64),
+    Several,
 }
 
-// One more codeword is near.
-fn one_more(near: u64) -> u64 {
-    if near == 0 { 1 } else { 2 }
+// A word that is tried, and what the search found for it: the near codewords, and the message of the codeword that equals it.
+#[derive(Clone, Copy)]
+pub(crate) struct Tried {
+    pub word: Word,
+    pub near: Near,
+    pub equal: Option<u64>,
 }
 
-// Holds a message's codeword against each word: where it is near, the message is kept, and one more is counted; where it equals the word,
-// 1 more than the message is kept.
-fn hold(
-    codeword: u64,
-    message: u64,
-    words: &[u64; WORDS],
-    marks: &[u64; WORDS],
-    near: &mut [u64; WORDS],
-    kept: &mut [u64; WORDS],
-    equal: &mut [u64; WORDS],
-)
-    requires { message < 4194304 }
-{
-    for j in 0..WORDS {
-        if is_near(codeword, words[j], marks[j]) {
-            near[j] = one_more(near[j]);
-            kept[j] = message;
+impl Tried {
+    // Of which nothing is found yet.
+    pub(crate) fn new(word: Word) -> Tried {
+        Tried {
+            word,
+            near: Near::None,
+            equal: None,
         }
-        if words[j] == codeword {
-            equal[j] = message + 1;
+    }
+
+    // Holds a message's codeword against the word.
+    fn hold(&mut self, codeword: u64, message: u64) {
+        if self.word.is_near(codeword) {
+            self.near = match self.near {
+                Near::None => Near::One(message),
+                _ => Near::Several,
+            };
+        }
+        if self.word.bits == codeword {
+            self.equal = Some(message);
         }
     }
 }
 
-// Whether the library encodes a message as a codeword.
-fn encodes(code: u64, message: u64, codeword: u64) -> bool {
-    match codes::encode(code, message) {
-        Encoded::Word(w) => w == codeword,
-        Encoded::Refused(_) => false,
-    }
-}
-
-// Holds every codeword of a code against each word.
-pub(crate) fn search(code: u64, words: &[u64; WORDS], marks: &[u64; WORDS]) -> Found {
-    let mut near = [0u64; WORDS];
-    let mut kept = [0u64; WORDS];
-    let mut equal = [0u64; WORDS];
-    let mut otherwise: u64 = 0;
+// Holds every codeword of a code against each word, and answers how many messages the library encodes otherwise.
+pub(crate) fn search(code: u32, tried: &mut [Tried; WORDS]) -> u64 {
+    let mut otherwise = 0;
     for message in 0..messages(code) {
         let codeword = codeword(code, message);
-        hold(
-            codeword, message, words, marks, &mut near, &mut kept, &mut equal,
-        );
-        otherwise = otherwise + counted(!encodes(code, message, codeword));
+        for word in tried.iter_mut() {
+            word.hold(codeword, message);
+        }
+        if codes::encode(u64::from(code), message) != Ok(codeword) {
+            otherwise += 1;
+        }
     }
-    Found {
-        near: near,
-        kept: kept,
-        equal: equal,
-        encoded_otherwise: otherwise,
-    }
-}
-
-// 1 where it is so, otherwise 0.
-pub(crate) fn counted(bit: bool) -> u64
-    ensures { result ≤ 1 }
-{
-    if bit { 1 } else { 0 }
+    otherwise
 }

@@ -1,4 +1,5 @@
-// What the tests know of a code and its words, by plain arithmetic. A message is a step times 4096 plus a reading.
+// What the tests know of a code and its words, by plain arithmetic. A code goes by its number, as the scope has it, so that nothing here is
+// the library's. A message is a step times 4096 plus a reading.
 ghost use Rattle.std.specs.Prelude.{◌≤◌, ◌<◌};
 
 // The readings of a step.
@@ -8,7 +9,7 @@ pub(crate) const READINGS: u64 = 4096;
 pub(crate) const WIDEST: u64 = 40;
 
 // The columns of a code's words.
-pub(crate) fn columns(code: u64) -> usize
+pub(crate) fn columns(code: u32) -> usize
     ensures low { 9 ≤ result }
     ensures high { result ≤ 10 }
 {
@@ -16,7 +17,7 @@ pub(crate) fn columns(code: u64) -> usize
 }
 
 // The bits of a code's words.
-pub(crate) fn width(code: u64) -> u64
+pub(crate) fn width(code: u32) -> u64
     ensures low { 36 ≤ result }
     ensures high { result ≤ 40 }
 {
@@ -24,7 +25,7 @@ pub(crate) fn width(code: u64) -> u64
 }
 
 // The bits of a code's messages.
-pub(crate) fn message_bits(code: u64) -> u64
+pub(crate) fn message_bits(code: u32) -> u64
     ensures low { 19 ≤ result }
     ensures high { result ≤ 22 }
 {
@@ -32,7 +33,7 @@ pub(crate) fn message_bits(code: u64) -> u64
 }
 
 // The number of a code's steps.
-pub(crate) fn steps(code: u64) -> u64
+pub(crate) fn steps(code: u32) -> u64
     ensures low { 0 < result }
     ensures high { result ≤ 1024 }
 {
@@ -40,14 +41,14 @@ pub(crate) fn steps(code: u64) -> u64
 }
 
 // The number of a code's messages.
-pub(crate) fn messages(code: u64) -> u64
+pub(crate) fn messages(code: u32) -> u64
     ensures { result ≤ 4194304 }
 {
     steps(code) * READINGS
 }
 
 // The positions of a code's words, each a one.
-pub(crate) fn positions(code: u64) -> u64 {
+pub(crate) fn positions(code: u32) -> u64 {
     if code <= 2 {
         0xF_FFFF_FFFF
     } else {
@@ -55,43 +56,44 @@ pub(crate) fn positions(code: u64) -> u64 {
     }
 }
 
-// The bit of a position; 0 where there is no such position.
-pub(crate) fn bit(code: u64, position: u64) -> u64 {
+// The bit of a position, where there is such a position.
+pub(crate) fn bit(code: u32, position: u64) -> Option<u64> {
     let width = width(code);
     if width <= position {
-        return 0;
+        return None;
     }
-    1u64 << (width - 1 - position)
-}
-
-// The smaller of two numbers.
-pub(crate) fn least(a: u64, b: u64) -> u64
-    ensures first { result ≤ a }
-    ensures second { result ≤ b }
-{
-    if a < b { a } else { b }
+    Some(1 << (width - 1 - position))
 }
 
 // The ones of a number.
 pub(crate) fn ones(number: u64) -> u64
     ensures { result < 4294967296 }
 {
-    u64::count_ones(number) as u64
+    u64::from(number.count_ones())
 }
 
-// The unmarked positions where a codeword differs from a word.
-pub(crate) fn wrong(codeword: u64, word: u64, marks: u64) -> u64
-    ensures { result < 4294967296 }
-{
-    ones(((codeword ^ word) | marks) ^ marks)
+// A word and its marks.
+#[derive(Clone, Copy)]
+pub(crate) struct Word {
+    pub bits: u64,
+    pub marks: u64,
 }
 
-// Twice the wrong positions, and the marks: a codeword is near where this is at most 7.
-pub(crate) fn sum(codeword: u64, word: u64, marks: u64) -> u64 {
-    2 * wrong(codeword, word, marks) + ones(marks)
-}
+impl Word {
+    // The unmarked positions where a codeword differs from the word.
+    pub(crate) fn wrong(self, codeword: u64) -> u64
+        ensures { result < 4294967296 }
+    {
+        ones(((codeword ^ self.bits) | self.marks) ^ self.marks)
+    }
 
-// Whether a codeword is near. Most have more than three wrong positions, and are far whatever the marks.
-pub(crate) fn is_near(codeword: u64, word: u64, marks: u64) -> bool {
-    wrong(codeword, word, marks) <= 3 && sum(codeword, word, marks) <= 7
+    // Twice the wrong positions, and the marks: a codeword is near where this is at most 7.
+    pub(crate) fn sum(self, codeword: u64) -> u64 {
+        2 * self.wrong(codeword) + ones(self.marks)
+    }
+
+    // Whether a codeword is near. Most have more than three wrong positions, and are far whatever the marks.
+    pub(crate) fn is_near(self, codeword: u64) -> bool {
+        self.wrong(codeword) <= 3 && self.sum(codeword) <= 7
+    }
 }

@@ -1,7 +1,6 @@
--- How much was read: no more than the buffer has. Of the bytes themselves nothing can be said.
-use Rattle.std.specs.Prelude.{List, ℕ, ◌≤◌, length}
-use Rattle.files.specs.declared.Input.{Input}
+-- How much was read, where it did not fail: no more than the buffer has. Of the bytes themselves nothing can be said.
+use Rattle.std.specs.Prelude.{List, ℕ, ◌≤◌, length, Result, IfOk}
+use Rattle.files.specs.declared.Failed.{Failed}
 
-abbrev pub Within : List ℕ → Input → Type 0
-Within buffer (Input.Bytes end) = end ≤ length buffer
-Within buffer Input.Failed = Unit {0}
+abbrev pub Within : List ℕ → Result ℕ Failed → Type 0
+Within buffer answer = IfOk answer (λ end. end ≤ length buffer)

@@ -1,74 +1,57 @@
 // Files and standard input, read and written for the programs. Whatever fails is told apart from the end of a file, and gets a line on standard error that says why.
 #![tactic(auto)]
 
-ghost use Rattle.std.specs.Prelude.{◌≤◌, length};
 ghost use Rattle.files.specs.Files.{Within};
-ghost use Rattle.files.specs.ContractsOfSteps.{Beyond};
 
 use std::fs::{File, OpenFile};
 use std::io;
 use std::io::{ErrorKind, Read, Write};
 use std::rt::Files;
 
-// How many bytes were read, or that a read failed.
-#[derive(Clone, Copy)]
-pub enum Input {
-    Bytes(usize),
-    Failed,
-}
+// Reading or writing failed. The line on standard error has said why.
+#[derive(Clone, Copy, Debug, PartialEq, Eq)]
+pub struct Failed;
 
 // Says on standard error what failed, and why.
-fn fail(rt: &impl Eprint, name: &str, error: io::Error) {
+fn fail(rt: &impl Eprint, name: &str, error: io::Error) -> Failed {
     // Where this can't be written either, there is nobody left to tell.
     let _ = eprintln!(rt; "{name}: {error}");
+    Failed
 }
 
-// One read into a buffer from `at` on: where it ends then, which is `at` at the end of the input.
-fn read_some(
+// Reads until a buffer is full or the input ends, and answers how many bytes it has then.
+fn read_all(
     rt: &impl Eprint,
     reader: &mut impl Read,
     name: &str,
     buf: &mut [u8],
-    at: usize,
-) -> Input
-    requires { at ≤ length buf.old }
-    ensures { Within buf.new result × Beyond at result }
-{
-    match reader.read(&mut buf[at..]) {
-        Ok(count) => Input::Bytes(at + count),
-        Err(error) => {
-            fail(rt, name, error);
-            Input::Failed
-        }
-    }
-}
-
-// Reads until a buffer is full or the input ends.
-fn read_all(rt: &impl Eprint, reader: &mut impl Read, name: &str, buf: &mut [u8]) -> Input
+) -> Result<usize, Failed>
     ensures { Within buf.new result }
 {
     let mut end = 0;
     while end < buf.len() {
-        let Input::Bytes(next) = read_some(rt, reader, name, buf, end) else {
-            return Input::Failed;
-        };
-        if next == end {
-            return Input::Bytes(end);
+        let count = reader
+            .read(&mut buf[end..])
+            .map_err(|error| fail(rt, name, error))?;
+        if count == 0 {
+            break;
         }
-        end = next;
+        end += count;
     }
-    Input::Bytes(end)
+    Ok(end)
 }
 
 // One read of standard input: as many bytes as it has by now, and none at its end.
-pub fn read_next(rt: &(impl io::Input + Eprint), buf: &mut [u8]) -> Input
+pub fn read_next(rt: &(impl io::Input + Eprint), buf: &mut [u8]) -> Result<usize, Failed>
     ensures { Within buf.new result }
 {
-    read_some(rt, &mut rt.reader(), "standard input", buf, 0)
+    rt.reader()
+        .read(buf)
+        .map_err(|error| fail(rt, "standard input", error))
 }
 
 // Reads standard input into a buffer, as far as it fits.
-pub fn read_input(rt: &(impl io::Input + Eprint), buf: &mut [u8]) -> Input
+pub fn read_input(rt: &(impl io::Input + Eprint), buf: &mut [u8]) -> Result<usize, Failed>
     ensures { Within buf.new result }
 {
     read_all(rt, &mut rt.reader(), "standard input", buf)
@@ -76,10 +59,10 @@ pub fn read_input(rt: &(impl io::Input + Eprint), buf: &mut [u8]) -> Input
 
 // The name of a file as text, which is what the system is asked with.
 fn file_name(path: &[u8]) -> io::Result<&str> {
-    match str::from_utf8(path) {
-        Ok(name) => Ok(name),
-        Err(_) => Err(io::Error::new(ErrorKind::InvalidFilename, "the file's name is not UTF-8")),
-    }
+    str::from_utf8(path).map_err(|_| io::Error::new(
+        ErrorKind::InvalidFilename,
+        "the file's name is not UTF-8",
+    ))
 }
 
 // Opens a file to be read.
@@ -88,16 +71,11 @@ fn open<R: Files>(rt: &R, path: &[u8]) -> io::Result<R::File> {
 }
 
 // Reads a file into a buffer, as far as it fits.
-pub fn read_file(rt: &(impl Files + Eprint), path: &[u8], buf: &mut [u8]) -> Input
+pub fn read_file(rt: &(impl Files + Eprint), path: &[u8], buf: &mut [u8]) -> Result<usize, Failed>
     ensures { Within buf.new result }
 {
-    match open(rt, path) {
-        Ok(mut file) => read_all(rt, &mut file, "open", buf),
-        Err(error) => {
-            fail(rt, "open", error);
-            Input::Failed
-        }
-    }
+    let mut file = open(rt, path).map_err(|error| fail(rt, "open", error))?;
+    read_all(rt, &mut file, "open", buf)
 }
 
 // Waits until the bytes of a file are stored. A pipe or a device has nothing to wait for, and answers that it can't be asked.
@@ -115,26 +93,15 @@ fn overwrite(rt: &impl Files, path: &[u8], bytes: &[u8]) -> io::Result<()> {
     store(&file)
 }
 
-// Writes bytes to a file, in place of whatever it held, and answers whether all of them are written.
-pub fn write_file(rt: &(impl Files + Eprint), path: &[u8], bytes: &[u8]) -> bool {
-    match overwrite(rt, path, bytes) {
-        Ok(()) => true,
-        Err(error) => {
-            fail(rt, "save", error);
-            false
-        }
-    }
+// Writes bytes to a file, in place of whatever it held. All of them are written, or it failed.
+pub fn write_file(rt: &(impl Files + Eprint), path: &[u8], bytes: &[u8]) -> Result<(), Failed> {
+    overwrite(rt, path, bytes).map_err(|error| fail(rt, "save", error))
 }
 
-// Writes a text to standard output, and answers whether all of it is written.
-pub fn print(rt: &(impl Print + Eprint), text: &[u8]) -> bool {
-    match rt.write_all(text) {
-        Ok(()) => true,
-        Err(error) => {
-            fail(rt, "standard output", error);
-            false
-        }
-    }
+// Writes a text to standard output. All of it is written, or it failed.
+pub fn print(rt: &(impl Print + Eprint), text: &[u8]) -> Result<(), Failed> {
+    rt.write_all(text)
+        .map_err(|error| fail(rt, "standard output", error))
 }
 
 #[cfg(test)]
@@ -156,7 +123,7 @@ mod tests {
         let mut buf = [0u8; 5];
         let mut reader = [1u8, 2].as_slice().chain([3u8].as_slice());
         let input = read_all(&rt, &mut reader, "pieces", &mut buf);
-        assert!(rt; matches!(input, Input::Bytes(3)));
+        assert_eq!(rt; input, Ok(3));
         assert_eq!(rt; buf, [1, 2, 3, 0, 0]);
     }
 
@@ -165,7 +132,7 @@ mod tests {
         let mut buf = [0u8; 2];
         let mut reader = [1u8, 2].as_slice().chain([3u8].as_slice());
         let input = read_all(&rt, &mut reader, "pieces", &mut buf);
-        assert!(rt; matches!(input, Input::Bytes(2)));
+        assert_eq!(rt; input, Ok(2));
         assert_eq!(rt; buf, [1, 2]);
     }
 
@@ -174,22 +141,22 @@ mod tests {
         let mut buf = [0u8; 5];
         let mut reader = [1u8, 2].as_slice().chain(Broken);
         let input = read_all(&rt, &mut reader, "pieces", &mut buf);
-        assert!(rt; matches!(input, Input::Failed));
+        assert_eq!(rt; input, Err(Failed));
     }
 
     #[test]
     fn opens_no_missing_file(rt: HostRuntime) {
         let mut buf = [0u8; 5];
         let missing = read_file(&rt, b"no/such/file", &mut buf);
-        assert!(rt; matches!(missing, Input::Failed));
-        assert!(rt; !write_file(&rt, b"no/such/file", &buf));
+        assert_eq!(rt; missing, Err(Failed));
+        assert_eq!(rt; write_file(&rt, b"no/such/file", &buf), Err(Failed));
     }
 
     #[test]
     fn opens_no_name_that_is_no_text(rt: HostRuntime) {
         let mut buf = [0u8; 5];
         let unnamed = read_file(&rt, b"\xFF", &mut buf);
-        assert!(rt; matches!(unnamed, Input::Failed));
-        assert!(rt; !write_file(&rt, b"\xFF", &buf));
+        assert_eq!(rt; unnamed, Err(Failed));
+        assert_eq!(rt; write_file(&rt, b"\xFF", &buf), Err(Failed));
     }
 }

@@ -6,6 +6,7 @@
 use mathlib.Core.Path.{◌≡◌, refl, ap}
 use mathlib.Core.List.{[], ◌∷◌}
 use mathlib.Core.Option.{none, some}
+use Rattle.std.specs.Prelude.{Some}
 use lib.Dec.{lit<}
 use lib.ListN.{length}
 use borrow.Author.Tests.{lt-ltb}
@@ -18,7 +19,6 @@ use Rattle.codes.specs.Codes.{projection}
 use Rattle.codes.proofs.Claims.{eight_is_far}
 use Rattle.codes.proofs.Laws.{near_correct, none_correct}
 use Rattle.codes.specs.Answer.{accepted}
-use Rattle.trace.specs.declared.answer.Pressures.{Pressures}
 use Rattle.trace.specs.Layout.{part, number_from, place_from}
 use Rattle.trace.specs.View.{read_corrected, read_content}
 use Rattle.trace.specs.Survey.{status_of, count, pressures, total, smallest, largest, extremes, answers_of, survey_of}
@@ -58,7 +58,7 @@ example_survey :
       slots = 4;
       counts = record { blank = 1; read = 1; over = 1; under = 0; lost = 1; bad = 0 };
       sum = 2385;
-      pressures = Pressures.Present 2385 2385 2385;
+      pressures = Some (record { smallest = 2385; largest = 2385; mean = 2385 });
     }
 unfolding
     example_file part number_from place_from is_fit is_bad content_with view_in read_content read_corrected survey_in survey_of answers_of count status_of
@@ -107,7 +107,7 @@ other_reports =
 -- a load's number is large: its ten digits are computed with room for no more
 load_line : answer_line (accepted (2165703038 ∷ [])) ≡ text "ok 2165703038\n"
 unfolding noted each digits
-load_line = rw (decimal_within 9 2165703038 (lit< tt))
+load_line = rw (decimal_within 9 2165703038 (lit< tt) (lit< tt))
 
 pub answer_lines : AnswerLines
 unfolding

@@ -1,12 +1,12 @@
 -- What the layers above may cite: the claims.
 pub mod Examples
 pub mod Visible
--- An input in its buffer, and what a survey of it answers.
+-- A file of which a survey is accepted has few slots.
 mod Inputs
--- Texts: decimal digits, and texts that are written one after the other.
+-- Texts: decimal digits, what the numbers of a list are written as, one after the other, a text made visible, and the parts of a survey's line.
 mod Decimals
 mod Texts
--- Listings, surveys and troubles: the lines as the code puts them together.
-mod Lines
-mod Surveyed
 mod Troubles
+mod Surveyed
+-- How long each text is at most.
+mod Lengths

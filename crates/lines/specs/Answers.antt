@@ -1,5 +1,5 @@
 -- What a script's lines are answered with, over what the calls of the trace answer.
-use Rattle.std.specs.Prelude.{List, [], ◌++◌, ℕ, take}
+use Rattle.std.specs.Prelude.{List, [], ◌++◌, ℕ, take, Option, None, Some}
 use Rattle.codes.specs.Answer.{Answer, accepted, refused}
 use Rattle.trace.specs.declared.answer.Pressures.{Pressures}
 use Rattle.trace.specs.declared.answer.Survey.{Survey}
@@ -14,9 +14,9 @@ answer_line (accepted values) = line (text "ok") values
 answer_line (refused number) = refused_line number
 
 -- a `-` for each of smallest, largest and mean that is absent
-abbrev pub absences : Pressures → List ℕ
-absences Pressures.Absent = text " - - -"
-absences (Pressures.Present smallest largest mean) = []
+abbrev pub absences : Option Pressures → List ℕ
+absences None = text " - - -"
+absences (Some p) = []
 
 -- a survey's line has ten places, whether or not there is a pressure
 abbrev pub survey_line : Answer Survey → List ℕ

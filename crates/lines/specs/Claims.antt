@@ -1,8 +1,6 @@
 -- What is claimed of the texts that the programs print. Each claim is a theorem of the same name, in lower case, in proofs/.
-use Rattle.std.specs.Prelude.{◌≡◌, List, [], ◌∷◌, ◌++◌, ℕ, ◌<◌, ◌≤◌, length, replicate}
+use Rattle.std.specs.Prelude.{◌≡◌, List, [], ◌∷◌, ◌++◌, ℕ, ◌<◌, ◌≤◌, length, replicate, Some, Ok}
 use Rattle.codes.specs.Answer.{accepted, map_answer}
-use Rattle.trace.specs.declared.answer.LoadAnswer.{LoadAnswer}
-use Rattle.trace.specs.declared.answer.Pressures.{Pressures}
 use Rattle.trace.specs.declared.answer.Survey.{Survey}
 use Rattle.trace.specs.Answers.{load_answer, reading_values}
 use Rattle.trace.specs.Trace.{alone_in, survey_in}
@@ -75,7 +73,7 @@ many_numbers =
       slots = 21;
       counts = record { blank = 4; read = 6; over = 1; under = 5; lost = 2; bad = 3 };
       sum = 8112;
-      pressures = Pressures.Present 1310 1409 1352;
+      pressures = Some (record { smallest = 1310; largest = 1409; mean = 1352 });
     }
 
 -- refused files, two without a pressure, and that survey
@@ -107,7 +105,7 @@ pub record OtherReports : Type 0 where
 -- calls on the same three files, with and without a pressure; a load's number, bytes and sizes
 pub record AnswerLines : Type 0 where
   pub done : answer_line (accepted []) ≡ text "ok\n"
-  pub load : answer_line (load_answer (LoadAnswer.Loaded 2165703038)) ≡ text "ok 2165703038\n"
+  pub load : answer_line (load_answer (Ok 2165703038)) ≡ text "ok 2165703038\n"
   pub read : answer_line (map_answer reading_values (alone_in example_file 0)) ≡ text "ok 74 2385 2 0\n"
   pub blank : answer_line (map_answer reading_values (alone_in example_file 1)) ≡ text "refused 11\n"
   pub lost : answer_line (map_answer reading_values (alone_in example_file 2)) ≡ text "refused 5\n"

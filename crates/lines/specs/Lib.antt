@@ -7,5 +7,5 @@ pub mod Answers
 pub mod Trouble
 pub mod Report
 pub mod Claims
--- What the private steps of a text promise each other. No claim rests on it but by the proofs.
+-- What the private steps of a text ask of each other. No claim rests on it but by the proofs.
 pub mod ContractsOfSteps

@@ -13,14 +13,17 @@ use Rattle.lines.specs.Input.{survey_file}
 
 -- ---- a slot's line
 
--- the word of a status, after a space
+-- the word of a status, and after a space
+abbrev pub status_name : Status → List ℕ
+status_name Status.Blank = text "blank"
+status_name Status.Read = text "read"
+status_name Status.Over = text "over"
+status_name Status.Under = text "under"
+status_name Status.Lost = text "lost"
+status_name Status.Bad = text "bad"
+
 abbrev pub status_word : Status → List ℕ
-status_word Status.Blank = text " blank"
-status_word Status.Read = text " read"
-status_word Status.Over = text " over"
-status_word Status.Under = text " under"
-status_word Status.Lost = text " lost"
-status_word Status.Bad = text " bad"
+status_word s = text " " ++ status_name s
 
 -- '.. then step, reading, wrong, marks for read; step, wrong, marks for over'; 'the listing prints under as it prints over'
 abbrev pub status_values : Status → Reading → List ℕ

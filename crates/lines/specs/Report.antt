@@ -1,5 +1,5 @@
 -- What the survey program prints for a file: what a limit is set from, and the counts that say whether to trust it, in words.
-use Rattle.std.specs.Prelude.{cond, List, [], ◌∷◌, ◌++◌, ℕ, eqb}
+use Rattle.std.specs.Prelude.{cond, List, [], ◌∷◌, ◌++◌, ℕ, eqb, Option, None, Some}
 use Rattle.codes.specs.Answer.{Answer, accepted, refused}
 use Rattle.trace.specs.declared.answer.Counts.{Counts}
 use Rattle.trace.specs.declared.answer.Pressures.{Pressures}
@@ -7,27 +7,32 @@ use Rattle.trace.specs.declared.answer.Survey.{Survey}
 use Rattle.trace.specs.declared.status.Status.{Status}
 use Rattle.lines.specs.Text.{text, noted}
 use Rattle.lines.specs.Input.{survey_file}
+use Rattle.lines.specs.Listing.{status_name}
 
 -- a line of a report: a name, a number, and a note
 abbrev pub report_line : List ℕ → ℕ → List ℕ → List ℕ
 report_line name number note = noted name (number ∷ []) note
 
 -- the pressures that limits are set from
-abbrev pub pressure_lines : Pressures → List ℕ
-pressure_lines Pressures.Absent = text "no pressure: nothing to set a limit from\n"
-pressure_lines (Pressures.Present smallest largest mean) =
-    report_line (text "smallest pressure") smallest []
-    ++ (report_line (text "largest pressure") largest []
-    ++ report_line (text "mean pressure") mean (text ", rounded down"))
+abbrev pub pressure_lines : Option Pressures → List ℕ
+pressure_lines None = text "no pressure: nothing to set a limit from\n"
+pressure_lines (Some p) =
+    report_line (text "smallest pressure") p.smallest []
+    ++ (report_line (text "largest pressure") p.largest []
+    ++ report_line (text "mean pressure") p.mean (text ", rounded down"))
+
+-- what a status means
+abbrev pub status_note : Status → List ℕ
+status_note Status.Blank = text ": nothing is stored"
+status_note Status.Read = text ": pressures, 1 to 4094; smallest, largest and mean are of these alone"
+status_note Status.Over = text ": the converter topped out at 4095, and the pressure is unknown"
+status_note Status.Under = text ": the converter gave 0, as with the plug out, and the pressure is unknown"
+status_note Status.Lost = text ": too much is damaged to say what the reading was"
+status_note Status.Bad = text ": bytes that no call writes"
 
 -- how many slots have a status, with what it means
 unfoldable pub status_line : Status → ℕ → List ℕ
-status_line Status.Blank n = report_line (text "blank") n (text ": nothing is stored")
-status_line Status.Read n = report_line (text "read") n (text ": pressures, 1 to 4094; smallest, largest and mean are of these alone")
-status_line Status.Over n = report_line (text "over") n (text ": the converter topped out at 4095, and the pressure is unknown")
-status_line Status.Under n = report_line (text "under") n (text ": the converter gave 0, as with the plug out, and the pressure is unknown")
-status_line Status.Lost n = report_line (text "lost") n (text ": too much is damaged to say what the reading was")
-status_line Status.Bad n = report_line (text "bad") n (text ": bytes that no call writes")
+status_line s n = report_line (status_name s) n (status_note s)
 
 -- how many slots there are, and how many of each status: those that are read first, the blank ones last
 abbrev pub count_lines : ℕ → Counts → List ℕ

@@ -1,5 +1,5 @@
--- Text as the bytes of its characters, numbers in decimal, bytes in hexadecimal; lines, and a text in a lent buffer.
-use Rattle.std.specs.Prelude.{◌≡◌, cond, List, [], ◌∷◌, ◌++◌, ℕ, zero, suc, ◌+◌, ◌/◌, ◌%◌, ◌≤◌, ltb, length, take, drop}
+-- Text as the bytes of its characters, numbers in decimal, bytes in hexadecimal; lines.
+use Rattle.std.specs.Prelude.{cond, List, [], ◌∷◌, ◌++◌, ℕ, zero, suc, ◌+◌, ◌/◌, ◌%◌, ltb}
 use Prim.Native.Char.{code}
 use Prim.Native.String.{String, [] as empty, ◌∷◌ as ◌then◌}
 
@@ -50,13 +50,3 @@ noted t numbers note = t ++ (spaced numbers ++ (note ++ text "\n"))
 -- a text, numbers after it, and a newline
 abbrev pub line : List ℕ → List ℕ → List ℕ
 line t numbers = noted t numbers []
-
--- ---- a text in a lent buffer
-
--- `bytes` became `now`, which begins with a text of `end` bytes; those behind it stayed
-abbrev pub Begins : List ℕ → List ℕ → List ℕ → ℕ → Type 0
-Begins bytes t now end = (take end now ≡ t) × (drop end now ≡ drop end bytes)
-
--- the first `end` bytes are there: said beside `Begins`, so that callers lend them without a proof
-abbrev pub Lendable : List ℕ → ℕ → Type 0
-Lendable now end = (end ≤ length now) × (end ≡ length (take end now))

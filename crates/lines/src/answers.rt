@@ -1,113 +1,109 @@
-// The answers to a script's lines. Each function writes a line at the start of a lent buffer and answers its length; the bytes behind it stay.
-ghost use Rattle.std.specs.Prelude.{◌≡◌, [], ◌∷◌, ◌++◌, ◌+◌, ◌*◌, ◌≤◌, length};
+// The answers to a script's lines.
+ghost use Rattle.std.specs.Prelude.{◌≡◌, [], ◌∷◌, ◌++◌, ◌≤◌};
 ghost use Rattle.codes.specs.Answer.{accepted, map_answer};
-ghost use Rattle.trace.specs.Answers.{done_answer, load_answer, read_answer, reading_values, survey_answer};
-ghost use Rattle.lines.specs.Text.{text, hex, each, Begins, Lendable};
-ghost use Rattle.lines.specs.Answers.{answer_line, survey_line, bytes_line};
-ghost use Rattle.lines.specs.ContractsOfSteps.{Written};
+ghost use Rattle.trace.specs.Answers.{done_answer, load_answer, read_answer, reading_values, survey_answer, pressures_values};
+ghost use Rattle.lines.specs.Text.{spaced};
+ghost use Rattle.lines.specs.Answers.{answer_line, absences, survey_line, bytes_line};
+ghost use Rattle.lines.specs.ContractsOfSteps.{HasRoom, values_answer};
 
 use crate::input::LONGEST;
-use crate::line::{refused_line, write_line, write_noted};
-use crate::text::write_hexes;
-use trace::{Done, LoadAnswer, Pressures, ReadAnswer, Survey, SurveyAnswer};
+use crate::line::{write_line, write_refused};
+use crate::text::{write_hexes, write_numbers};
+use arrayvec::ArrayString;
+use trace::{Pressures, Reading, Refusal, Survey};
 
 // Every answer fits: two digits for each byte of the longest buffer, and a newline.
 pub const ANSWER: usize = 2 * LONGEST + 1;
 
-// The line of a make, put, flip, mark or clear.
-pub fn done_line(answer: Done, out: &mut [u8; ANSWER]) -> usize
-    ensures begins { Begins out.old (answer_line (done_answer answer)) out.new result }
-    ensures lendable { Lendable out.new result }
+// The line of a few values.
+#[tactic(auto, using(crate::proofs::Lengths::refused_short))]
+fn values_line<const N: usize>(answer: Result<[u64; N], Refusal>) -> ArrayString<ANSWER>
+    requires { N ≤ 4 }
+    ensures { result.bytes ≡ answer_line (values_answer answer.entry) }
 {
+    let mut out = ArrayString::new();
     match answer {
-        Done::Refused(r) => refused_line(out, r.number()),
-        Done::Accepted => {
-            let none: [u64; 0] = [];
-            write_line(out, 0, b"ok", &none)
-        }
+        Ok(values) => write_line(&mut out, "ok", &values),
+        Err(refusal) => write_refused(&mut out, refusal.number()),
     }
+    out
+}
+
+// The line of a make, put, flip, mark or clear.
+pub fn done_line(answer: Result<(), Refusal>) -> ArrayString<ANSWER>
+    ensures { result.bytes ≡ answer_line (done_answer answer) }
+{
+    values_line(answer.map(|()| []))
 }
 
 // The line of one number: what a load hands back, or how many bytes a file had that was opened or saved.
-pub fn number_line(number: u64, out: &mut [u8; ANSWER]) -> usize
-    ensures begins { Begins out.old (answer_line (accepted (number ∷ []))) out.new result }
-    ensures lendable { Lendable out.new result }
+pub fn number_line(number: u64) -> ArrayString<ANSWER>
+    ensures { result.bytes ≡ answer_line (accepted (number ∷ [])) }
 {
-    let numbers = [number];
-    write_line(out, 0, b"ok", &numbers)
+    values_line(Ok([number]))
 }
 
 // The line of a load: the number handed back.
-pub fn load_line(answer: LoadAnswer, out: &mut [u8; ANSWER]) -> usize
-    ensures begins { Begins out.old (answer_line (load_answer answer)) out.new result }
-    ensures lendable { Lendable out.new result }
+pub fn load_line(answer: Result<u32, Refusal>) -> ArrayString<ANSWER>
+    ensures { result.bytes ≡ answer_line (load_answer answer) }
 {
-    match answer {
-        LoadAnswer::Refused(r) => refused_line(out, r.number()),
-        LoadAnswer::Loaded(number) => number_line(number as u64, out),
-    }
+    values_line(answer.map(
+        |number|
+            ensures { result ≡ number ∷ [] }
+        { [number as u64] },
+    ))
 }
 
 // The line of a read: step, reading, wrong, marks.
-pub fn read_line(answer: ReadAnswer, out: &mut [u8; ANSWER]) -> usize
-    ensures begins { Begins out.old (answer_line (map_answer reading_values (read_answer answer))) out.new result }
-    ensures lendable { Lendable out.new result }
+pub fn read_line(answer: Result<Reading, Refusal>) -> ArrayString<ANSWER>
+    ensures { result.bytes ≡ answer_line (map_answer reading_values (read_answer answer)) }
 {
-    match answer {
-        ReadAnswer::Refused(r) => refused_line(out, r.number()),
-        ReadAnswer::Corrected(v) => {
-            let numbers = v.values();
-            write_line(out, 0, b"ok", &numbers)
-        }
+    values_line(answer.map(Reading::values))
+}
+
+// Smallest, largest and mean, or a `-` for each.
+#[tactic(auto, unfolding(crate::specs::Text::each))]
+fn write_pressures<const N: usize>(out: &mut ArrayString<N>, pressures: Option<Pressures>)
+    requires { HasRoom N out.old (spaced (pressures_values pressures) ++ absences pressures) }
+    ensures { out.new.bytes ≡ out.old.bytes ++ (spaced (pressures_values pressures) ++ absences pressures) }
+{
+    match pressures {
+        Some(p) => write_numbers(out, &p.values()),
+        None => out.push_str(" - - -"),
     }
 }
 
 // The line of an accepted survey: its values, and a `-` for each of smallest, largest and mean that is absent.
-fn surveyed_line(survey: Survey, out: &mut [u8]) -> usize
-    requires { 219 ≤ length out.old }
-    ensures written { Written out.old 0 (survey_line (accepted survey)) out.new result }
-    ensures upper_bound { result ≤ 219 }
+fn write_survey<const N: usize>(out: &mut ArrayString<N>, survey: Survey)
+    requires { HasRoom N out.old (survey_line (accepted survey)) }
+    ensures { out.new.bytes ≡ out.old.bytes ++ survey_line (accepted survey) }
 {
-    let v = survey.values();
-    let count = v.count;
-    let values = v.values;
-    let numbers = &values[..count];
-    let pressures = survey.pressures;
-    match pressures {
-        Pressures::Absent => write_noted(out, 0, b"ok", numbers, b" - - -"),
-        Pressures::Present(_, _, _) => write_line(out, 0, b"ok", numbers),
-    }
+    out.push_str("ok");
+    write_numbers(out, &survey.values());
+    write_pressures(out, survey.pressures);
+    out.push_str("\n");
 }
 
 // The line of a survey: blank, read, over, under, lost, bad, sum, smallest, largest, mean.
-pub fn survey_line(answer: SurveyAnswer, out: &mut [u8; ANSWER]) -> usize
-    ensures begins { Begins out.old (survey_line (survey_answer answer)) out.new result }
-    ensures lendable { Lendable out.new result }
+#[tactic(auto, using(crate::proofs::Lengths::survey_short, crate::proofs::Lengths::refused_short))]
+pub fn survey_line(answer: Result<Survey, Refusal>) -> ArrayString<ANSWER>
+    ensures { result.bytes ≡ survey_line (survey_answer answer) }
 {
+    let mut out = ArrayString::new();
     match answer {
-        SurveyAnswer::Refused(r) => refused_line(out, r.number()),
-        SurveyAnswer::Surveyed(s) => surveyed_line(s, out),
+        Ok(survey) => write_survey(&mut out, survey),
+        Err(refusal) => write_refused(&mut out, refusal.number()),
     }
-}
-
-// The line of bytes that are not too many for it.
-fn hex_line(bytes: &[u8], out: &mut [u8]) -> usize
-    requires { 2 * length bytes.now + 1 ≤ length out.old }
-    ensures written { Written out.old 0 (each hex bytes.now ++ text "\n") out.new result }
-    ensures value { result ≡ 2 * length bytes.now + 1 }
-{
-    let end = write_hexes(out, 0, bytes);
-    out[end] = b'\n';
-    end + 1
+    out
 }
 
 // The line of a buffer's bytes, in hexadecimal; of more than the longest buffer has, the first.
-pub fn bytes_line(bytes: &[u8], out: &mut [u8; ANSWER]) -> usize
-    ensures begins { Begins out.old (bytes_line bytes.now) out.new result }
-    ensures lendable { Lendable out.new result }
+#[tactic(auto, using(crate::proofs::Lengths::hexes_short, std::proofs::lemmas::List::take_min), unfolding(crate::specs::Answers::bytes_line))]
+pub fn bytes_line(bytes: &[u8]) -> ArrayString<ANSWER>
+    ensures { result.bytes ≡ bytes_line bytes.now }
 {
-    if LONGEST < bytes.len() {
-        return hex_line(&bytes[..LONGEST], out);
-    }
-    hex_line(bytes, out)
+    let mut out = ArrayString::new();
+    write_hexes(&mut out, &bytes[..LONGEST.min(bytes.len())]);
+    out.push_str("\n");
+    out
 }

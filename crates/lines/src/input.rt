@@ -1,9 +1,9 @@
-// The input of a program, in a buffer of a fixed size.
+// The input of a program.
 ghost use Rattle.std.specs.Prelude.{◌≡◌};
 ghost use Rattle.trace.specs.Answers.{survey_answer};
-ghost use Rattle.lines.specs.Input.{is_too_long, InputBuffer, read_into, survey_file};
+ghost use Rattle.lines.specs.Input.{survey_file};
 
-use trace::{Refusal, SurveyAnswer};
+use trace::{Refusal, Survey};
 
 // An input has at most this many bytes.
 pub const LONGEST: usize = 65536;
@@ -11,21 +11,13 @@ pub const LONGEST: usize = 65536;
 // A buffer for an input has one byte more, so that a longer input is seen.
 pub const INPUT: usize = LONGEST + 1;
 
-// Whether an input is too long, of which `size` bytes were read into a buffer: it fills the buffer.
-fn is_too_long(input: &[u8; INPUT], size: usize) -> bool
-    ensures { InputBuffer input.now × (result ≡ is_too_long (read_into input.now size)) }
+// What a survey of a file answers; one that is too long is refused.
+#[tactic(auto, unfolding(crate::specs::Input::survey_file))]
+pub(crate) fn survey_file(file: &[u8]) -> Result<Survey, Refusal>
+    ensures { survey_answer result ≡ survey_file file.now }
 {
-    let bytes: &[u8] = input;
-    bytes.len() <= size
-}
-
-// What a survey of an input answers, of which `size` bytes were read into a buffer; one that is too long is refused.
-pub(crate) fn survey_input(input: &[u8; INPUT], size: usize) -> SurveyAnswer
-    ensures { InputBuffer input.now × (survey_answer result ≡ survey_file (read_into input.now size)) }
-{
-    if is_too_long(input, size) {
-        return SurveyAnswer::Refused(Refusal::BufferShort);
+    if LONGEST < file.len() {
+        return Err(Refusal::BufferShort);
     }
-    let bytes: &[u8] = input;
-    trace::survey(&bytes[..size])
+    trace::survey(file)
 }

@@ -1,95 +1,61 @@
-// Text written into lent bytes: each function writes from `at` on and answers where its text ends.
-ghost use Rattle.std.specs.Prelude.{◌≡◌, ◌+◌, ◌*◌, ◌≤◌, ◌<◌, length};
+// Text written behind what a string of a fixed capacity holds. There must be room for it.
+ghost use Rattle.std.specs.Prelude.{◌≡◌, ◌++◌, ◌<◌};
 ghost use Rattle.lines.specs.Text.{decimal, hex_digit, hex, each, spaced};
-ghost use Rattle.lines.specs.ContractsOfSteps.{Written};
+ghost use Rattle.lines.specs.ContractsOfSteps.{HasRoom};
 
-// The character of a digit.
-fn digit(d: u64) -> u8
-    requires { d < 10 }
-    ensures { result ≡ 48 + d }
+use arrayvec::ArrayString;
+use itoa::Buffer;
+
+// Each number in decimal, after a space.
+#[tactic(auto, unfolding(crate::specs::Text::each))]
+pub(crate) fn write_numbers<const N: usize>(out: &mut ArrayString<N>, numbers: &[u64])
+    requires { HasRoom N out.old (spaced numbers.now) }
+    ensures { out.new.bytes ≡ out.old.bytes ++ spaced numbers.now }
 {
-    48 + d as u8
+    for number in numbers {
+        out.push_str(" ");
+        write_decimal(out, *number);
+    }
 }
 
 // A number's decimal digits.
-pub(crate) fn write_decimal(out: &mut [u8], at: usize, n: u64) -> usize
-    requires { at + length (decimal n) ≤ length out.old }
-    ensures { Written out.old at (decimal n) out.new result }
+#[tactic(auto, using(crate::proofs::Decimals::decimal_same))]
+pub(crate) fn write_decimal<const N: usize>(out: &mut ArrayString<N>, number: u64)
+    requires { HasRoom N out.old (decimal number) }
+    ensures { out.new.bytes ≡ out.old.bytes ++ decimal number }
 {
-    if n < 10 {
-        out[at] = digit(n);
-        return at + 1;
-    }
-    let end = write_decimal(out, at, n / 10);
-    out[end] = digit(n % 10);
-    end + 1
-}
-
-// The bytes of a text.
-pub(crate) fn write_text(out: &mut [u8], at: usize, text: &[u8]) -> usize
-    requires { at + length text.now ≤ length out.old }
-    ensures { Written out.old at text.now out.new result }
-{
-    let mut end = at;
-    let mut i = 0;
-    while i < text.len() {
-        out[end] = text[i];
-        end += 1;
-        i += 1;
-    }
-    end
-}
-
-// Each number after a space.
-pub(crate) fn write_numbers(out: &mut [u8], at: usize, numbers: &[u64]) -> usize
-    requires { at + 21 * length numbers.now ≤ length out.old }
-    ensures written { Written out.old at (spaced numbers.now) out.new result }
-    ensures upper_bound { result ≤ at + 21 * length numbers.now }
-{
-    let mut end = at;
-    let mut i = 0;
-    while i < numbers.len() {
-        out[end] = b' ';
-        end = write_decimal(out, end + 1, numbers[i]);
-        i += 1;
-    }
-    end
+    out.push_str(Buffer::new().format(number));
 }
 
 // The character of a hexadecimal digit, in upper case.
-fn hex_digit(d: u8) -> u8
-    requires { d < 16 }
-    ensures { result ≡ hex_digit d }
+fn hex_digit(digit: u8) -> char
+    requires { digit < 16 }
+    ensures value { result ≡ hex_digit digit }
+    ensures ascii { result < 128 }
 {
-    if d < 10 {
-        return 48 + d;
+    match digit {
+        0..=9 => (b'0' + digit) as char,
+        _ => (b'A' + (digit - 10)) as char,
     }
-    55 + d
 }
 
 // A byte as two hexadecimal digits.
-pub(crate) fn write_hex(out: &mut [u8], at: usize, byte: u8) -> usize
-    requires { at + 2 ≤ length out.old }
-    ensures written { Written out.old at (hex byte) out.new result }
-    ensures value { result ≡ at + 2 }
+#[tactic(auto, unfolding(crate::specs::Text::hex))]
+pub(crate) fn write_hex<const N: usize>(out: &mut ArrayString<N>, byte: u8)
+    requires { HasRoom N out.old (hex byte) }
+    ensures { out.new.bytes ≡ out.old.bytes ++ hex byte }
 {
-    out[at] = hex_digit(byte / 16);
-    let next = at + 1;
-    out[next] = hex_digit(byte % 16);
-    next + 1
+    out.push(hex_digit(byte / 16));
+    out.push(hex_digit(byte % 16));
 }
 
 // Each byte as two hexadecimal digits.
-pub(crate) fn write_hexes(out: &mut [u8], at: usize, bytes: &[u8]) -> usize
-    requires { at + 2 * length bytes.now ≤ length out.old }
-    ensures written { Written out.old at (each hex bytes.now) out.new result }
-    ensures value { result ≡ at + 2 * length bytes.now }
+#[tactic(auto, using(crate::proofs::Texts::each_more), unfolding(crate::specs::Text::each))]
+pub(crate) fn write_hexes<const N: usize>(out: &mut ArrayString<N>, bytes: &[u8])
+    requires { HasRoom N out.old (each hex bytes.now) }
+    ensures { out.new.bytes ≡ out.old.bytes ++ each hex bytes.now }
 {
-    let mut end = at;
-    let mut i = 0;
-    while i < bytes.len() {
-        end = write_hex(out, end, bytes[i]);
-        i += 1;
+    for byte in bytes {
+        write_hex(out, *byte);
     }
-    end
 }

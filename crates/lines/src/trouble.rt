@@ -1,19 +1,32 @@
 // The line of a script's line that can't be played.
-ghost use Rattle.std.specs.Prelude.{◌≡◌, ◌+◌, ◌*◌, ◌≤◌, length};
-ghost use Rattle.lines.specs.Text.{Begins, Lendable};
+ghost use Rattle.std.specs.Prelude.{◌≡◌, ◌++◌};
 ghost use Rattle.lines.specs.Trouble.{is_plain, visible_byte, visible, shown, trouble_words, trouble_line};
-ghost use Rattle.lines.specs.ContractsOfSteps.{Written};
+ghost use Rattle.lines.specs.ContractsOfSteps.{HasRoom};
 
 use crate::answers::ANSWER;
-use crate::text::{write_hex, write_numbers, write_text};
+use crate::text::{write_hex, write_numbers};
+use arrayvec::ArrayString;
 
 // Why a line can't be played: it means nothing, it asks for a buffer that isn't lent, its file can't be read, or can't be written.
-#[derive(Clone, Copy)]
+#[derive(Clone, Copy, Debug, PartialEq, Eq)]
 pub enum Trouble {
     Unreadable,
     NotLent,
     NotRead,
     NotWritten,
+}
+
+impl Trouble {
+    fn words(self) -> &'static str
+        ensures { result.now ≡ trouble_words self }
+    {
+        match self {
+            Trouble::Unreadable => " unreadable: ",
+            Trouble::NotLent => " not lent: ",
+            Trouble::NotRead => " not read: ",
+            Trouble::NotWritten => " not written: ",
+        }
+    }
 }
 
 // So many bytes of a line are shown.
@@ -23,81 +36,67 @@ const SHOWN: usize = 72;
 fn is_plain(byte: u8) -> bool
     ensures { result ≡ is_plain byte }
 {
-    if byte < 32 {
-        return false;
-    }
-    if 126 < byte {
-        return false;
-    }
-    byte != b'\\'
+    matches!(byte, b' '..=b'~') && byte != b'\\'
 }
 
 // A byte made visible.
-fn write_visible(out: &mut [u8], at: usize, byte: u8) -> usize
-    requires { at + 4 ≤ length out.old }
-    ensures written { Written out.old at (visible_byte byte) out.new result }
-    ensures upper_bound { result ≤ at + 4 }
+#[tactic(auto, unfolding(crate::specs::Trouble::visible_byte))]
+fn write_visible<const N: usize>(out: &mut ArrayString<N>, byte: u8)
+    requires { HasRoom N out.old (visible_byte byte) }
+    ensures { out.new.bytes ≡ out.old.bytes ++ visible_byte byte }
 {
     if is_plain(byte) {
-        out[at] = byte;
-        return at + 1;
+        out.push(byte as char);
+    } else {
+        out.push_str("\\x");
+        write_hex(out, byte);
     }
-    let end = write_text(out, at, b"\\x");
-    write_hex(out, end, byte)
 }
 
 // Each byte of a text made visible.
-fn write_all_visible(out: &mut [u8], at: usize, text: &[u8]) -> usize
-    requires { at + 4 * length text.now ≤ length out.old }
-    ensures written { Written out.old at (visible text.now) out.new result }
-    ensures upper_bound { result ≤ at + 4 * length text.now }
+#[tactic(auto, using(crate::proofs::Texts::each_more), unfolding(crate::specs::Text::each))]
+fn write_all_visible<const N: usize>(out: &mut ArrayString<N>, text: &[u8])
+    requires { HasRoom N out.old (visible text.now) }
+    ensures { out.new.bytes ≡ out.old.bytes ++ visible text.now }
 {
-    let mut end = at;
-    let mut i = 0;
-    while i < text.len() {
-        end = write_visible(out, end, text[i]);
-        i += 1;
+    for byte in text {
+        write_visible(out, *byte);
     }
-    end
 }
 
 // As much of a text as is shown.
-fn write_shown(out: &mut [u8], at: usize, text: &[u8]) -> usize
-    requires { at + 291 ≤ length out.old }
-    ensures written { Written out.old at (shown text.now) out.new result }
-    ensures upper_bound { result ≤ at + 291 }
+#[tactic(auto, unfolding(crate::specs::Trouble::shown))]
+fn write_shown<const N: usize>(out: &mut ArrayString<N>, text: &[u8])
+    requires { HasRoom N out.old (shown text.now) }
+    ensures { out.new.bytes ≡ out.old.bytes ++ shown text.now }
 {
-    if SHOWN < text.len() {
-        let end = write_all_visible(out, at, &text[..SHOWN]);
-        return write_text(out, end, b"...");
-    }
-    write_all_visible(out, at, text)
-}
-
-// The words of a trouble.
-fn write_words(out: &mut [u8], at: usize, trouble: Trouble) -> usize
-    requires { at + 14 ≤ length out.old }
-    ensures written { Written out.old at (trouble_words trouble) out.new result }
-    ensures upper_bound { result ≤ at + 14 }
-{
-    match trouble {
-        Trouble::Unreadable => write_text(out, at, b" unreadable: "),
-        Trouble::NotLent => write_text(out, at, b" not lent: "),
-        Trouble::NotRead => write_text(out, at, b" not read: "),
-        Trouble::NotWritten => write_text(out, at, b" not written: "),
+    if text.len() <= SHOWN {
+        write_all_visible(out, text);
+    } else {
+        write_all_visible(out, &text[..SHOWN]);
+        out.push_str("...");
     }
 }
 
-// The line of a script's line that can't be played: its number, why, and a text: the line itself, a file's name or a reason.
-pub fn trouble_line(line: u64, trouble: Trouble, text: &[u8], out: &mut [u8; ANSWER]) -> usize
-    ensures begins { Begins out.old (trouble_line line trouble text.now) out.new result }
-    ensures lendable { Lendable out.new result }
+// A line's number, why it can't be played, and a text: the line itself, a file's name or a reason.
+#[tactic(auto, unfolding(crate::specs::Trouble::trouble_line))]
+fn write_trouble<const N: usize>(out: &mut ArrayString<N>, line: u64, trouble: Trouble, text: &[u8])
+    requires { HasRoom N out.old (trouble_line line trouble text.now) }
+    ensures { out.new.bytes ≡ out.old.bytes ++ trouble_line line trouble text.now }
 {
-    let numbers = [line];
-    let named = write_text(out, 0, b"line");
-    let numbered = write_numbers(out, named, &numbers);
-    let said = write_words(out, numbered, trouble);
-    let end = write_shown(out, said, text);
-    out[end] = b'\n';
-    end + 1
+    out.push_str("line");
+    write_numbers(out, &[line]);
+    out.push_str(trouble.words());
+    write_shown(out, text);
+    out.push_str("\n");
+}
+
+// The line of a script's line that can't be played.
+#[tactic(auto, using(crate::proofs::Lengths::trouble_short))]
+pub fn trouble_line(line: u64, trouble: Trouble, text: &[u8]) -> ArrayString<ANSWER>
+    ensures { result.bytes ≡ trouble_line line trouble text.now }
+{
+    let mut out = ArrayString::new();
+    write_trouble(&mut out, line, trouble, text);
+    out
 }

@@ -1,12 +1,11 @@
 -- What is claimed of the calls for C. Of the numbers that they return, a corollary of demand 1: 0 exactly where no row of the call's table is met,
 -- else the number of the first that is, and then what is lent stays as it was. And of what stands where in a survey. Each claim is a theorem of the
 -- same name, in lower case, in proofs/.
-use Rattle.std.specs.Prelude.{◌≡◌, ◌↔◌, List, [], ◌∷◌, ℕ}
+use Rattle.std.specs.Prelude.{◌≡◌, ◌↔◌, List, [], ◌∷◌, ℕ, None, Some}
 use Rattle.codes.specs.Answer.{Row, map_answer, Passes, Refuses}
 use Rattle.codes.specs.Codes.{encoding, decoding, correcting, under}
 use Rattle.codes.specs.Claims.{Among, encoding_numbers, encoding_rows, decoding_numbers, decoding_rows, correcting_numbers, correcting_rows}
 use Rattle.trace.specs.declared.answer.Counts.{Counts}
-use Rattle.trace.specs.declared.answer.Pressures.{Pressures}
 use Rattle.trace.specs.Calls.{Call, load, read, survey, Making}
 use Rattle.trace.specs.Trace.{refusals_in, on_bytes, make_rows, make, survey_in}
 use Rattle.trace.specs.Claims.{numbers_of, making_numbers}
@@ -38,8 +37,8 @@ pub record ReturnNumbers : Type 0 where
 -- what stands in the eleven places of a survey, with pressures and without
 pub record SurveyPlaces : Type 0 where
   pub present : (slots sum smallest largest mean : ℕ) (c : Counts)
-      → survey_flagged (record { slots = slots; counts = c; sum = sum; pressures = Pressures.Present smallest largest mean })
+      → survey_flagged (record { slots = slots; counts = c; sum = sum; pressures = Some (record { smallest = smallest; largest = largest; mean = mean }) })
       ≡ c.blank ∷ c.read ∷ c.over ∷ c.under ∷ c.lost ∷ c.bad ∷ sum ∷ 1 ∷ smallest ∷ largest ∷ mean ∷ []
   pub absent : (slots sum : ℕ) (c : Counts)
-      → survey_flagged (record { slots = slots; counts = c; sum = sum; pressures = Pressures.Absent })
+      → survey_flagged (record { slots = slots; counts = c; sum = sum; pressures = None })
       ≡ c.blank ∷ c.read ∷ c.over ∷ c.under ∷ c.lost ∷ c.bad ∷ sum ∷ 0 ∷ 0 ∷ 0 ∷ 0 ∷ []

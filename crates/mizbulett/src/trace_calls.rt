@@ -3,20 +3,10 @@ ghost use Rattle.std.specs.Prelude.{◌≡◌};
 ghost use Rattle.codes.specs.Answer.{map_answer};
 ghost use Rattle.trace.specs.Calls.{put, put_list, flip, mark, load, clear, read};
 ghost use Rattle.trace.specs.Trace.{on_bytes, make, survey_in};
-ghost use Rattle.trace.specs.Answers.{done_answer};
-ghost use Rattle.mizbulett.specs.Returned.{presence, number_of, returned, returns, leaves, survey_flagged};
+ghost use Rattle.mizbulett.specs.Returned.{returned, returns, leaves, survey_flagged};
 
-use trace::{Done, LoadAnswer, Pressures, ReadAnswer, Survey, SurveyAnswer};
-
-// 0 where a call is accepted, else the refusal's number.
-fn number(done: Done) -> u64
-    ensures { result ≡ number_of (done_answer done) }
-{
-    match done {
-        Done::Accepted => 0,
-        Done::Refused(r) => r.number(),
-    }
-}
+use crate::answers::{give, lone, number};
+use trace::{Reading, Survey};
 
 // Makes a trace of blank slots at the buffer's end. Refusals 1, 6 and 7.
 #[unsafe(no_mangle)]
@@ -76,13 +66,8 @@ pub extern "C" fn mizbulett_load(
     ensures buf_after { returned result buf.new ≡ leaves (on_bytes (load slot seed count) buf.old) }
     ensures out_after { returned result out.new ≡ returns (on_bytes (load slot seed count) buf.old).answer out.old }
 {
-    match trace::load(buf, slot, seed, count) {
-        LoadAnswer::Refused(r) => r.number(),
-        LoadAnswer::Loaded(number) => {
-            *out = [number as u64];
-            0
-        }
-    }
+    let handed_back = trace::load(buf, slot, seed, count).map(u64::from);
+    give(handed_back.map(lone), out)
 }
 
 // Blanks a slot. Refusals 7, 8 and 9.
@@ -98,35 +83,20 @@ pub extern "C" fn mizbulett_clear(buf: &mut [u8], slot: u64) -> u64
 pub extern "C" fn mizbulett_read(buf: &[u8], slot: u64, out: &mut [u64; 4]) -> u64
     ensures { returned result out.new ≡ returns (on_bytes (read slot) buf.now).answer out.old }
 {
-    match trace::read(buf, slot) {
-        ReadAnswer::Refused(r) => r.number(),
-        ReadAnswer::Corrected(v) => {
-            *out = v.values();
-            0
-        }
-    }
-}
-
-// Whether smallest, largest and mean are present: 1, or 0 where they are absent.
-fn present(p: Pressures) -> u64
-    ensures { result ≡ presence p }
-{
-    match p {
-        Pressures::Absent => 0,
-        Pressures::Present(_, _, _) => 1,
-    }
+    give(trace::read(buf, slot).map(Reading::values), out)
 }
 
 // The values of a survey, and before the last three a flag: 1 where they are present.
 fn flagged(s: Survey) -> [u64; 11]
     ensures { result ≡ survey_flagged s }
 {
-    let v = s.values();
-    let x = v.values;
-    let pressures = s.pressures;
-    let flag = present(pressures);
+    let [blank, read, over, under, lost, bad, sum] = s.values();
+    let (present, [smallest, largest, mean]) = match s.pressures {
+        Some(p) => (1, p.values()),
+        None => (0, [0; 3]),
+    };
     [
-        x[0], x[1], x[2], x[3], x[4], x[5], x[6], flag, x[7], x[8], x[9],
+        blank, read, over, under, lost, bad, sum, present, smallest, largest, mean,
     ]
 }
 
@@ -135,11 +105,5 @@ fn flagged(s: Survey) -> [u64; 11]
 pub extern "C" fn mizbulett_survey(buf: &[u8], out: &mut [u64; 11]) -> u64
     ensures { returned result out.new ≡ returns (map_answer survey_flagged (survey_in buf.now)) out.old }
 {
-    match trace::survey(buf) {
-        SurveyAnswer::Refused(r) => r.number(),
-        SurveyAnswer::Surveyed(s) => {
-            *out = flagged(s);
-            0
-        }
-    }
+    give(trace::survey(buf).map(flagged), out)
 }

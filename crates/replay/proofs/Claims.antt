@@ -1,18 +1,13 @@
 -- The theorem of specs/Claims.antt. The row of a list of puts of any length passes every test, and its numbers are those lists; all other rows are
 -- computed by their definitions.
-use Prim.Native.Nat.{ℕ, suc, ◌+◌, ◌-◌, ◌≤◌}
-use mathlib.Core.Path.{◌≡◌, refl, ◌∙◌}
-use mathlib.Core.Bool.{true}
-use mathlib.Core.List.{List, ◌∷◌, ◌++◌, append_assoc}
-use native.Mathlib.Omega.{arith}
-use lib.ListN.{length, take, drop, length-append}
-use lib.Seq.{take-append_seam, drop-append_seam}
-use borrow.Author.Tests.{le-leb}
+use Rattle.std.proofs.Common.{◌≡◌, true, ℕ, suc, ◌+◌, ◌-◌, ◌≤◌, List, ◌∷◌, ◌++◌, length, take, drop, refl, arith, append_assoc, length-append}
+use Rattle.std.proofs.lemmas.Bool.{le-leb}
+use Rattle.std.proofs.Math.Seq.{take-append_seam, drop-append_seam}
 use Rattle.trace.specs.Calls.{put_list}
 use Rattle.replay.specs.Numbers.{call_with, count_fits, is_call, call_in, calls_in, calls_of}
 use Rattle.replay.specs.Claims.{RowsMean}
-use Rattle.replay.proofs.Rows.{next_list}
-use Rattle.replay.proofs.FirstCalls.{first_call, calls_enough}
+use Rattle.replay.specs.ContractsOfSteps.{BeginsWith}
+use Rattle.replay.proofs.FirstCalls.{first_call}
 
 module _ (start : ℕ) (steps readings more : List ℕ) where
   abbrev count : ℕ
@@ -34,15 +29,21 @@ module _ (start : ℕ) (steps readings more : List ℕ) where
   behind : drop (length (steps ++ readings)) (steps ++ (readings ++ more)) ≡ more
   behind = rw (← append_assoc steps readings more) (drop-append_seam (steps ++ readings) more)
 
-  list_row : calls_of row ≡ put_list start steps readings ∷ calls_of more
-  list_row =
-      let n = suc (suc (suc (length (steps ++ (readings ++ more))))) in
-      let size : length (steps ++ (readings ++ more)) ≡ length steps + (length readings + length more) = simp length-append in
-      let numbers : 2 + count - 4 ≡ length (steps ++ readings) = simp length-append (omega arith) in
+  begins : BeginsWith row (put_list start steps readings) more
+  unfolding is_call call_in
+  begins =
+      let there : 2 + count ≤ length row = simp length-append (omega arith) in
+      let numbers : count - 2 ≡ length (steps ++ readings) = simp length-append (omega arith) in
       let whole : 2 + count ≡ suc (suc (suc (suc (length (steps ++ readings))))) = simp length-append (omega arith) in
-      let begins = (next_list row (omega arith) count_fits_lem (omega arith) refl).0 in
-      first_call n begins
-      ∙ rw (numbers, both, take-append_seam, drop-append_seam, whole, behind, calls_enough n (length more) more (omega arith) (omega arith))
+      record {
+        whole = rw (le-leb 2 (length row) (omega arith), count_fits_lem, le-leb (2 + count) (length row) there);
+        named = rw (numbers, both, take-append_seam, drop-append_seam);
+        after = rw (whole, behind);
+        within = there;
+      }
+
+  list_row : calls_of row ≡ put_list start steps readings ∷ calls_of more
+  list_row = first_call begins
 
 pub rows_mean : RowsMean
 unfolding call_with count_fits is_call call_in calls_in

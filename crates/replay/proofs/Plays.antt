@@ -1,12 +1,6 @@
 -- A replay taken call by call is the run of the calls that have room. How many have room follows from them and their answers alone; so on a
 -- freshly made buffer, where the answers are the plain trace's by demand 3, as many run as on the plain trace, and they leave its bytes.
-use Prim.Native.Nat.{ℕ, ◌+◌, ◌-◌}
-use mathlib.Core.Path.{◌≡◌, refl, sym, ◌∙◌}
-use mathlib.Core.Bool.{Bool, true, false, cond}
-use mathlib.Core.List.{List, [], ◌∷◌, ◌++◌}
-use native.Mathlib.Numerals.{add-one}
-use lib.Dec.{leb}
-use lib.ListN.{length, take, drop}
+use Rattle.std.proofs.Common.{◌≡◌, Bool, true, false, cond, leb, ℕ, ◌+◌, ◌-◌, List, [], ◌∷◌, ◌++◌, length, take, drop, refl, sym, ◌∙◌, add-one}
 use Rattle.codes.specs.Answer.{Answer}
 use Rattle.trace.specs.Calls.{Call, Making, After, run}
 use Rattle.trace.specs.Trace.{on_bytes, make}
@@ -16,7 +10,28 @@ use Rattle.trace.proofs.Claims.{demand3}
 use Rattle.trace.proofs.Laws.{run_none, run_more}
 use Rattle.replay.specs.Numbers.{calls_of, answer_numbers, room_for}
 use Rattle.replay.specs.Replay.{fitting, answers_numbers, Left, Replayed}
-use Rattle.replay.specs.ContractsOfPlay.{Played, nothing, before, play}
+
+-- how many calls ran, the numbers of their answers, and the state after them
+pub record Played (S : Type 0) : Type 0 where
+  pub ran : ℕ
+  pub answers : List ℕ
+  pub state : S
+
+-- no call ran
+abbrev pub nothing : {S : Type 0} → S → Played S
+nothing s = record { ran = 0; answers = []; state = s }
+
+-- n calls, with their answers' numbers, that ran before others
+abbrev pub before : {S : Type 0} → ℕ → List ℕ → Played S → Played S
+before n xs p = record { ran = p.ran + n; answers = xs ++ p.answers; state = p.state }
+
+-- the calls of a list, one after the other, while each has room
+unfoldable pub play : {S : Type 0} → (Call → S → After S) → List Call → ℕ → S → Played S
+play step [] room s = nothing s
+play step (c ∷ cs) room s =
+    cond (leb (room_for c (step c s).answer) room)
+    (before 1 (answer_numbers (step c s).answer) (play step cs (room - length (answer_numbers (step c s).answer)) (step c s).state))
+    (nothing s)
 
 -- what the first n calls leave, taken at once
 abbrev at_once : {S : Type 0} → (Call → S → After S) → List Call → S → ℕ → Played S

@@ -1,58 +1,65 @@
--- The row that a list of numbers begins with, test by test in the definition's order: where a test fails it is no call, and where all are passed it
--- is a list of puts or a call of another kind. Of a list of puts the readings are the part of the row to its end.
-use Prim.Native.Nat.{ℕ, ◌+◌, ◌-◌, ◌<◌, ◌≤◌}
-use mathlib.Core.Path.{◌≡◌, refl, ◌∙◌}
-use mathlib.Core.Bool.{true, false, and-eq-true_iff}
-use mathlib.Core.List.{List}
-use native.Mathlib.Omega.{arith}
-use lib.Dec.{ltb, leb}
-use lib.ListN.{length, get_or, take, drop, length-drop}
-use lib.Seq.{take_all}
-use borrow.Author.Tests.{ltb-true, leb-true, le-leb, lt-leb, ne_eqb}
-use Rattle.replay.specs.declared.calls.Next.{Next}
-use Rattle.replay.specs.Numbers.{kinds, count_fits, seed_fits, is_call, call_in}
-use Rattle.replay.specs.ContractsOfSteps.{NextIn}
+-- The row that a list of numbers begins with: the numbers that follow its kind and count fit the kind exactly where the list begins with a call, and
+-- name that call. What lies past a call's numbers tells nothing, since a kind that would read it has more of them.
+use Rattle.std.proofs.Common.{◌≡◌, true, false, ◌&&◌, ℕ, ◌+◌, ◌-◌, ◌<◌, ◌≤◌, List, length, get_or, take, drop, ap, ◌∙◌, inl, inr, arith, eqb, length-drop}
+use Rattle.std.proofs.lemmas.Bool.{le-leb}
+use Rattle.std.proofs.lemmas.Bool.Decides.{eqb_tells}
+use Rattle.std.proofs.Math.Bool.{and-eq-true_iff}
+use Rattle.std.proofs.lemmas.List.{get_or-take, get_or-drop, length-take-le, drop-take, drop-drop}
+use Rattle.replay.specs.Numbers.{kinds, count_fits, seed_fits, is_call, call_in, call_with}
+use Rattle.replay.specs.ContractsOfSteps.{fits, named}
 
--- the part from a place to the end
-pub rest_part : (xs : List ℕ) (n : ℕ) → take (length xs - n) (drop n xs) ≡ drop n xs
-rest_part xs n = take_all (length xs - n) (drop n xs) (rw length-drop (omega arith))
+-- a number that the call doesn't have makes no difference to whether its numbers fit
+same_fit : (kind n y y' : ℕ) → (1 < n → y ≡ y') → (count_fits kind n y && seed_fits kind y) ≡ (count_fits kind n y' && seed_fits kind y')
+unfolding count_fits
+same_fit kind n y y' same = grind arith
 
--- where a test fails
-module _ (xs : List ℕ) where
-  pub no_head : length xs < 2 → is_call xs ≡ false
+-- numbers that fit any kind but a list of puts
+known : (kind n y : ℕ) → count_fits kind n y ≡ true → eqb kind 7 ≡ false → (kind < 7) × (n ≡ get_or kinds kind 0)
+unfolding count_fits
+known kind n y fit other = grind arith
+
+-- nor to which call of such a kind it is
+same_call : (kind n x y z x' y' z' : ℕ) → kind < 7 → n ≡ get_or kinds kind 0
+    → (0 < n → x ≡ x') → (1 < n → y ≡ y') → (2 < n → z ≡ z') → call_with kind x y z ≡ call_with kind x' y' z'
+unfolding call_with
+same_call kind n x y z x' y' z' lt size first second third = grind arith
+
+-- a list of puts has its start and the count of its steps
+list_size : (n y : ℕ) → count_fits 7 n y ≡ true → 2 ≤ n
+unfolding count_fits
+list_size n y fit = grind arith
+
+module _ (xs : List ℕ) (within : 2 + get_or xs 1 0 ≤ length xs) where
+  -- the call's numbers
+  abbrev numbers : List ℕ
+  numbers = take (get_or xs 1 0) (drop 2 xs)
+
+  length_numbers : length numbers ≡ get_or xs 1 0
+  length_numbers = length-take-le (get_or xs 1 0) (drop 2 xs) (rw length-drop (omega arith))
+
+  number_at : (i : ℕ) → i < get_or xs 1 0 → get_or xs (2 + i) 0 ≡ get_or numbers i 0
+  number_at i h = rw (get_or-take, get_or-drop)
+
+  pub row_whole : is_call xs ≡ fits (get_or xs 0 0) numbers
   unfolding is_call
-  no_head lt = simp (lt-leb _ _ lt)
+  row_whole =
+      let head : 2 ≤ length xs = omega arith in
+      rw (le-leb 2 (length xs) head, le-leb (2 + get_or xs 1 0) (length xs) within, length_numbers)
+      (same_fit (get_or xs 0 0) (get_or xs 1 0) (get_or xs 3 0) (get_or numbers 1 0) (number_at 1))
 
-module _ (xs : List ℕ) (head : 2 ≤ length xs) where
-  pub no_count : count_fits (get_or xs 0 0) (get_or xs 1 0) (get_or xs 3 0) ≡ false → is_call xs ≡ false
-  unfolding is_call
-  no_count e = simp (le-leb _ _ head, e)
-
-  pub cut_short : count_fits (get_or xs 0 0) (get_or xs 1 0) (get_or xs 3 0) ≡ true → length xs < 2 + get_or xs 1 0 → is_call xs ≡ false
-  unfolding is_call
-  cut_short e lt = simp (le-leb _ _ head, e, lt-leb _ _ lt)
-
--- where the count fits and all the numbers are there
-module _ (xs : List ℕ) (head : 2 ≤ length xs) (count : count_fits (get_or xs 0 0) (get_or xs 1 0) (get_or xs 3 0) ≡ true)
-    (within : 2 + get_or xs 1 0 ≤ length xs) where
-  pub seed_decides : is_call xs ≡ seed_fits (get_or xs 0 0) (get_or xs 3 0)
-  unfolding is_call
-  seed_decides = simp (le-leb _ _ head, count, le-leb _ _ within)
-
-  pub next_list : get_or xs 0 0 ≡ 7 → NextIn xs (Next.List (get_or xs 2 0) (get_or xs 3 0) (2 + get_or xs 1 0))
-  unfolding call_in count_fits
-  next_list kind =
-      let fits = (and-eq-true_iff (leb 2 (get_or xs 1 0)) _).0 (rw kind at count) in
-      let two : 2 ≤ get_or xs 1 0 = leb-true _ _ fits.0 in
-      let steps : get_or xs 3 0 ≤ get_or xs 1 0 - 2 = leb-true _ _ fits.1 in
-      let size : 2 + get_or xs 1 0 - 4 ≡ get_or xs 1 0 - 2 = omega arith in
-      (record { whole = seed_decides ∙ rw kind; named = rw (kind, size); size = refl; within = within }, omega arith)
-
-  pub next_other : (get_or xs 0 0 ≡ 7 → ⊥) → seed_fits (get_or xs 0 0) (get_or xs 3 0) ≡ true
-      → NextIn xs (Next.Call (record { kind = get_or xs 0 0; x = get_or xs 2 0; y = get_or xs 3 0; z = get_or xs 4 0 }) (2 + get_or xs 1 0))
-  unfolding call_in count_fits
-  next_other ne seed =
-      let known = (and-eq-true_iff (ltb (get_or xs 0 0) (length kinds)) _).0 (rw (ne_eqb _ _ ne) at count) in (
-        record { whole = seed_decides ∙ seed; named = rw (ne_eqb _ _ ne); size = refl; within = within },
-        record { kind = ltb-true _ _ known.0; seed = seed },
-      )
+  pub row_named : fits (get_or xs 0 0) numbers ≡ true → call_in xs ≡ named (get_or xs 0 0) numbers
+  unfolding call_in
+  row_named fit =
+      let kind = get_or xs 0 0 in
+      let n = get_or xs 1 0 in
+      let fitted : count_fits kind n (get_or numbers 1 0) ≡ true = rw length_numbers at ((and-eq-true_iff (count_fits kind (length numbers) (get_or numbers 1 0)) _).0 fit).0 in
+      elim (eqb_tells kind 7) [
+        | inl w ↦
+            let two : 2 ≤ n = list_size n (get_or numbers 1 0) (rw w.1 at fitted) in
+            let size : n ≡ 2 + (n - 2) = omega arith in
+            let lists : drop 2 numbers ≡ take (n - 2) (drop 4 xs) = ap (λ k. drop 2 (take k (drop 2 xs))) size ∙ rw drop-drop at (drop-take 2 (n - 2) (drop 2 xs)) in
+            rw (w.0, number_at 0 (omega arith), number_at 1 (omega arith), lists)
+        | inr w ↦
+            let other = known kind n (get_or numbers 1 0) fitted w.0 in
+            rw w.0 (same_call kind n _ _ _ _ _ _ other.0 other.1 (number_at 0) (number_at 1) (number_at 2))
+      ]

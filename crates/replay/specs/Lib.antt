@@ -2,6 +2,5 @@
 pub mod Numbers
 pub mod Replay
 pub mod Claims
--- What the private steps of a replay promise each other. No claim rests on these but by the proofs.
-pub mod ContractsOfPlay
+-- What the private steps of a replay promise each other. No claim rests on it but by the proofs.
 pub mod ContractsOfSteps

@@ -1,124 +1,71 @@
 // Runs of lists of calls.
-ghost use Rattle.std.specs.Prelude.{◌≡◌, ◌≤◌, length};
+ghost use Rattle.std.specs.Prelude.{◌≡◌};
+ghost use Rattle.trace.specs.Calls.{after};
 ghost use Rattle.trace.specs.Trace.{on_bytes};
-ghost use Rattle.replay.specs.Numbers.{list_with};
-ghost use Rattle.replay.specs.ContractsOfSteps.{NumbersOf, call_of, IsChange, IsQuery, IsLoad, Fit, RunsCall, next_run, RunsNext};
+ghost use Rattle.replay.specs.ContractsOfSteps.{answer_of, call_of, least_room, KeepsOrFits, RunsCall};
 ghost use Rattle.replay.specs.Replay.{Replayed};
 
-use crate::answers::{
-    AnswerNumbers, Written, done_numbers, load_numbers, read_numbers, survey_numbers, write_answer,
-};
-use crate::calls::{CallNumbers, FLIP, LOAD, MARK, Next, PUT, READ, SURVEY, next_call};
+use crate::answers::{Values, survey_values, write_answer};
+use crate::calls::{Call, next_call};
+use trace::Refusal;
 
-// The numbers of any answer to a put, flip, mark or clear: the refusal's number or 0, and the count of values, which is 0.
+// The numbers of an answer without values: the refusal's number or 0, and the count of values, which is 0.
 const CHANGE_ROOM: usize = 2;
 
-// How many numbers a call took and its answer has, or that no call ran.
-#[derive(Clone, Copy)]
-pub(crate) enum NextRun {
-    Ran(usize, usize),
-    Stop,
+// The room that a call needs before it runs: an accepted load has one value.
+fn least_room(call: Call) -> usize
+    ensures { result ≡ least_room (call_of call.entry) }
+{
+    match call {
+        Call::Load { .. } => CHANGE_ROOM + 1,
+        _ => CHANGE_ROOM,
+    }
 }
 
-// Runs a put, flip, mark or clear.
-fn run_change(b: &mut [u8], call: CallNumbers) -> AnswerNumbers
-    requires { IsChange call.kind }
-    ensures { NumbersOf (on_bytes (call_of call) b.old).answer result × (result.count ≡ 0)
-        × (b.new ≡ (on_bytes (call_of call) b.old).state) }
+// Runs a call, and answers its values.
+#[tactic(auto, using(trace::proofs::Laws::survey_step))]
+fn run(b: &mut [u8], call: Call) -> Result<Values, Refusal>
+    ensures answered { after (answer_of result) b.new ≡ on_bytes (call_of call.entry) b.old }
+    ensures keeps_or_fits { KeepsOrFits (call_of call.entry) (answer_of result) b.old b.new }
 {
-    let kind = call.kind;
-    if kind == PUT {
-        return done_numbers(trace::put(b, call.x, call.y, call.z));
-    }
-    if kind == FLIP {
-        return done_numbers(trace::flip(b, call.x, call.y));
-    }
-    if kind == MARK {
-        return done_numbers(trace::mark(b, call.x, call.y));
-    }
-    done_numbers(trace::clear(b, call.x))
-}
-
-// Runs a load.
-fn run_load(b: &mut [u8], call: CallNumbers) -> AnswerNumbers
-    requires { IsLoad call.kind × Fit call }
-    ensures { NumbersOf (on_bytes (call_of call) b.old).answer result × (result.count ≤ 1)
-        × (b.new ≡ (on_bytes (call_of call) b.old).state) }
-{
-    load_numbers(trace::load(b, call.x, call.y as u32, call.z))
-}
-
-// Runs a read or a survey, which change nothing.
-fn run_query(b: &[u8], call: CallNumbers) -> AnswerNumbers
-    requires { IsQuery call.kind }
-    ensures { NumbersOf (on_bytes (call_of call) b.now).answer result
-        × (b.now ≡ (on_bytes (call_of call) b.now).state) }
-{
-    let kind = call.kind;
-    if kind == SURVEY {
-        return survey_numbers(trace::survey(b));
-    }
-    read_numbers(trace::read(b, call.x))
-}
-
-// Runs a call that has room in `out`, and no other. One that changes a slot has it where any answer to it has: two numbers, for a load three.
-fn run_call(b: &mut [u8], call: CallNumbers, out: &mut [u64]) -> Written
-    requires { Fit call }
-    ensures { RunsCall (call_of call) b.old out.old b.new out.new result }
-{
-    let kind = call.kind;
-    if kind < READ {
-        if out.len() < CHANGE_ROOM {
-            return Written::NoRoom;
+    let mut values = Values::new();
+    match call {
+        Call::Put {
+            slot,
+            step,
+            reading,
+        } => trace::put(b, slot, step, reading)?,
+        Call::PutList {
+            start,
+            steps,
+            readings,
+        } => trace::put_list(b, start, steps, readings)?,
+        Call::Flip { slot, position } => trace::flip(b, slot, position)?,
+        Call::Mark { slot, position } => trace::mark(b, slot, position)?,
+        Call::Clear { slot } => trace::clear(b, slot)?,
+        Call::Load { slot, seed, count } => {
+            let number = trace::load(b, slot, seed, count)?;
+            values.push(u64::from(number));
         }
-        return write_answer(out, run_change(b, call));
+        Call::Read { slot } => {
+            let v = trace::read(b, slot)?;
+            values.try_extend_from_slice(&v.values()).unwrap();
+        }
+        Call::Survey => values = survey_values(trace::survey(b)?),
     }
-    if kind < LOAD {
-        return write_answer(out, run_query(b, call));
-    }
-    if out.len() < 3 {
-        return Written::NoRoom;
-    }
-    write_answer(out, run_load(b, call))
+    Ok(values)
 }
 
-// Runs a list of puts that has room in `out`, and no other. The first `count` of its numbers are its steps, all others its readings.
-fn run_list(b: &mut [u8], start: u64, count: usize, numbers: &[u64], out: &mut [u64]) -> Written
-    requires { count ≤ length numbers.now }
-    ensures { RunsCall (list_with start count numbers.now)
-        b.old out.old b.new out.new result }
+// Runs a call that has room in `out`, and no other, and answers how many numbers were written. A call that changes the buffer runs only where any
+// answer to it has room.
+#[tactic(auto, using(crate::proofs::Rooms::runs_call))]
+fn run_call(b: &mut [u8], call: Call, out: &mut [u64]) -> Option<usize>
+    ensures { RunsCall (call_of call.entry) b.old out.old b.new out.new result }
 {
-    if out.len() < 2 {
-        return Written::NoRoom;
+    if out.len() < least_room(call) {
+        return None;
     }
-    let steps = &numbers[..count];
-    let readings = &numbers[count..];
-    let answer = trace::put_list(b, start, steps, readings);
-    write_answer(out, done_numbers(answer))
-}
-
-// What running a call that takes `size` numbers comes to, by what was written of its answer.
-fn next_run(size: usize, written: Written) -> NextRun
-    ensures { result ≡ next_run size written }
-{
-    match written {
-        Written::Numbers(count) => NextRun::Ran(size, count),
-        Written::NoRoom => NextRun::Stop,
-    }
-}
-
-// Runs the call that a list of numbers begins with, if it is whole and has room for its answer.
-fn run_next(b: &mut [u8], calls: &[u64], out: &mut [u64]) -> NextRun
-    ensures { RunsNext calls.now b.old out.old b.new out.new result }
-{
-    match next_call(calls) {
-        Next::Call(call, size) => next_run(size, run_call(b, call, out)),
-        Next::List(start, steps, size) => next_run(
-            size,
-            run_list(b, start, steps, &calls[4..size], out),
-        ),
-        Next::Stop => NextRun::Stop,
-    }
+    write_answer(out, run(b, call))
 }
 
 // Runs a list of calls while each is whole and has room for its answer, a load for an accepted one's, and answers how many ran.
@@ -126,15 +73,16 @@ pub fn replay(b: &mut [u8], calls: &[u64], answers: &mut [u64]) -> usize
     ensures { Replayed b.old calls.now answers.old result b.new answers.new }
 {
     let mut ran = 0;
-    let mut at = 0;
+    let mut rest = calls;
+    // Tried `answers = &mut answers[size..]`: the proof then knows nothing of what the slice holds in the end.
     let mut written = 0;
-    while at < calls.len() {
-        let NextRun::Ran(size, count) = run_next(b, &calls[at..], &mut answers[written..]) else {
+    while let Some((call, after)) = next_call(rest) {
+        let Some(size) = run_call(b, call, &mut answers[written..]) else {
             return ran;
         };
         ran += 1;
-        at += size;
-        written += count;
+        rest = after;
+        written += size;
     }
     ran
 }

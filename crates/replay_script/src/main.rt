@@ -20,143 +20,80 @@
 // and what is wrong with it, and the lent bytes stay. Until something is lent there are none.
 #![tactic(auto)]
 
+mod buffer;
 mod play;
 
-ghost use Rattle.std.specs.Prelude.{◌≡◌, ◌≤◌, length};
-ghost use Rattle.lines.specs.Input.{longest};
-
-use files::Input;
+use buffer::Buffer;
 use lines::{LONGEST, Trouble};
-use play::{play, print_trouble};
-use script::{LINE, hold, is_whole};
+use play::{Line, play, print_trouble};
+use script::Held;
 use std::io;
 use std::rt::Files;
 
 // How far a script is played.
-#[derive(Clone, Copy)]
+#[derive(Drop)]
 struct Progress {
-    // How many bytes of the next line are held.
-    held: usize,
-    // The next line's number.
+    // The next line, as far as it is taken, and its number.
+    held: Held,
     number: u64,
-    // How many bytes are lent.
-    lent: usize,
+    // The bytes that are lent.
+    buffer: Buffer,
 }
 
-// The number of the line after one of this number; the last number stays.
-fn following(number: u64) -> u64 {
-    if number == u64::MAX {
-        return number;
-    }
-    number + 1
-}
-
-// Plays the line that is held, where it is whole, and answers how many bytes are lent from then on.
-fn play_held(
-    rt: &(impl Files + Print + Eprint),
-    line: &[u8; LINE],
-    buffer: &mut [u8],
-    p: Progress,
-) -> usize
-    requires whole_buffer { length buffer.old ≡ longest }
-    requires within_buffer { p.lent ≤ longest }
-    ensures { result ≤ longest }
-{
-    let held = p.held;
-    if !is_whole(held) {
-        print_trouble(rt, p.number, Trouble::Unreadable, b"more than 200000 bytes");
-        return p.lent;
-    }
-    let bytes: &[u8] = line;
-    play(rt, &bytes[..held], p.number, buffer, p.lent)
-}
-
-// Takes the next byte of a script: it is held, or ends the line that is held, which is played.
-fn take(
-    rt: &(impl Files + Print + Eprint),
-    byte: u8,
-    line: &mut [u8; LINE],
-    buffer: &mut [u8],
-    p: Progress,
-) -> Progress
-    requires whole_buffer { length buffer.old ≡ longest }
-    requires within_buffer { p.lent ≤ longest }
-    ensures { result.lent ≤ longest }
-{
+// Plays the line that is held, and begins the next one.
+fn play_held(rt: &(impl Files + Print + Eprint), p: &mut Progress) {
     let number = p.number;
-    if byte == b'\n' {
-        let lent = play_held(rt, line, buffer, p);
-        return Progress {
-            held: 0,
-            number: following(number),
-            lent,
-        };
+    match &p.held.line {
+        Some(text) => {
+            let line = Line {
+                number,
+                text: text.as_slice(),
+            };
+            play(rt, line, &mut p.buffer);
+        }
+        None => print_trouble(rt, number, Trouble::Unreadable, b"more than 200000 bytes"),
     }
-    Progress {
-        held: hold(byte, line, p.held),
-        number,
-        lent: p.lent,
-    }
+    p.held = Held::new();
+    p.number = number.saturating_add(1);
 }
 
-// Takes the bytes that a read gave.
-fn take_all(
-    rt: &(impl Files + Print + Eprint),
-    bytes: &[u8],
-    line: &mut [u8; LINE],
-    buffer: &mut [u8],
-    p: Progress,
-) -> Progress
-    requires whole_buffer { length buffer.old ≡ longest }
-    requires within_buffer { p.lent ≤ longest }
-    ensures { result.lent ≤ longest }
-{
-    let mut progress = p;
+// Takes the next bytes of a script: each is held, or ends the line that is held, which is played.
+fn take(rt: &(impl Files + Print + Eprint), bytes: &[u8], p: &mut Progress) {
     for byte in bytes {
-        progress = take(rt, *byte, line, buffer, progress);
+        if *byte == b'\n' {
+            play_held(rt, p);
+        } else {
+            p.held.hold(*byte);
+        }
     }
-    progress
 }
 
 // Takes standard input as it comes, until it ends or can't be read. A proved loop has to end, so this one counts its reads up to a number that
 // no run reaches.
-fn take_input(
-    rt: &(impl io::Input + Files + Print + Eprint),
-    line: &mut [u8; LINE],
-    buffer: &mut [u8],
-    p: Progress,
-) -> Progress
-    requires whole_buffer { length buffer.old ≡ longest }
-    requires within_buffer { p.lent ≤ longest }
-    ensures { result.lent ≤ longest }
-{
+fn take_input(rt: &(impl io::Input + Files + Print + Eprint), p: &mut Progress) {
     let mut input = [0u8; LONGEST];
-    let mut progress = p;
     for _ in 0..u64::MAX {
-        let Input::Bytes(n) = files::read_next(rt, &mut input) else {
+        let Ok(n) = files::read_next(rt, &mut input) else {
             // What is held is no whole line.
-            progress.held = 0;
-            return progress;
+            p.held = Held::new();
+            return;
         };
         if n == 0 {
-            return progress;
+            return;
         }
-        progress = take_all(rt, &input[..n], line, buffer, progress);
+        take(rt, &input[..n], p);
     }
-    progress
 }
 
 fn main(rt: HostRuntime) {
-    let mut line = [0u8; LINE];
-    let mut buffer = [0u8; LONGEST];
-    let first = Progress {
-        held: 0,
+    let mut progress = Progress {
+        held: Held::new(),
         number: 1,
-        lent: 0,
+        buffer: Buffer::new(),
     };
-    let last = take_input(&rt, &mut line, &mut buffer, first);
+    take_input(&rt, &mut progress);
     // The last line may be without a newline.
-    if 0 < last.held {
-        play_held(&rt, &line, &mut buffer, last);
+    if !progress.held.is_empty() {
+        play_held(&rt, &mut progress);
     }
 }

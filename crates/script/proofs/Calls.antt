@@ -23,7 +23,7 @@ use Rattle.lines.specs.Answers.{answer_line, bytes_line}
 use Rattle.lines.specs.Claims.{example_file}
 use Rattle.lines.proofs.Examples.{answer_lines}
 use Rattle.script.specs.declared.line.Call.{Call}
-use Rattle.script.specs.Answering.{Answered, answered, answered_list}
+use Rattle.script.specs.Answering.{Answered, answered}
 use Rattle.script.specs.Claims.{CallsAnswer}
 
 -- the codeword of 74·4096 + 2385 under code 2: it is a codeword, and that is its message
@@ -42,13 +42,13 @@ leaves (refused number) b = refl
 
 reads : (slot : ℕ) (line : List ℕ) → answer_line (on_bytes (read slot) example_file).answer ≡ line
     → answered (Call.Read slot) example_file ≡ with_line line example_file
-unfolding answered on_bytes
+unfolding on_bytes
 reads slot line e = ap₂ with_line e (leaves (unless (refusals_in (read slot) example_file) (gives (read slot) (view_in example_file))) example_file)
 
 pub calls_answer : CallsAnswer
 unfolding
-    answered make made trailer bytes_of on_bytes view_in content_with part number_from place_from is_fit is_bad stored store_at overwrite
-    drawn handed_back answered_list put_all noted each decimal digits bytes_line hex
+    make made trailer bytes_of on_bytes view_in content_with part number_from place_from is_fit is_bad stored store_at overwrite
+    drawn handed_back put_all noted each decimal digits bytes_line hex
 calls_answer =
     record {
       make = refl;

@@ -1,9 +1,5 @@
 -- The claims about lines and calls: those that are stated here are computed by the definitions.
-use mathlib.Core.Path.{refl}
-use Rattle.script.specs.Script.{is_blank, skip_blanks, trim_end, without_return, bare, up_to, behind, pieces, words, is, digit_on, numbers_on}
-use Rattle.script.specs.Script.{is_comma, numbers_of, number_list, hex_value, hex_bytes, chosen, spoken, meaning, argument}
-use Rattle.script.specs.Lending.{line_lends, lend_in}
-use Rattle.script.specs.Lists.{line_puts, take_in}
+use Rattle.std.proofs.Common.{refl}
 use Rattle.script.specs.Claims.{LinesMean, LinesLend, LinesPut}
 pub use Rattle.script.proofs.Holds.{lines_held}
 pub use Rattle.script.proofs.Commas.{lists_read}
@@ -11,9 +7,6 @@ pub use Rattle.script.proofs.Sizes.{lists_fit}
 pub use Rattle.script.proofs.Calls.{calls_answer}
 
 pub lines_mean : LinesMean
-unfolding
-    is_blank skip_blanks trim_end without_return bare up_to behind pieces words is digit_on numbers_on is_comma numbers_of number_list
-    hex_value hex_bytes chosen spoken meaning
 lines_mean =
     record {
       empty = refl;
@@ -62,13 +55,7 @@ lines_mean =
     }
 
 pub lines_lend : LinesLend
-unfolding
-    is_blank skip_blanks trim_end without_return bare up_to behind pieces words is digit_on numbers_on is_comma numbers_of number_list
-    hex_value hex_bytes chosen spoken meaning argument line_lends lend_in
 lines_lend = record { size = refl; pairs = refl; digits = refl; no_digits = refl; call = refl; name = refl; front = refl; fits = refl; too_many = refl; nothing = refl }
 
 pub lines_put : LinesPut
-unfolding
-    is_blank skip_blanks trim_end without_return bare up_to behind pieces words is digit_on numbers_on is_comma numbers_of number_list
-    hex_value hex_bytes chosen spoken meaning argument line_puts take_in
 lines_put = record { puts = refl; several = refl; empty = refl; uneven = refl; largest = refl; put = refl; front = refl; fits = refl; too_many = refl; nothing = refl }

@@ -15,7 +15,7 @@ abbrev pub called : After (List ℕ) → Answered
 called a = record { line = answer_line a.answer; bytes = a.state }
 
 -- a survey and `bytes` change nothing; a survey's line has ten places
-unfoldable pub answered : Call → List ℕ → Answered
+abbrev pub answered : Call → List ℕ → Answered
 answered (Call.Make code slots) b = called (make (record { code = code; slots = slots }) b)
 answered (Call.Put slot step reading) b = called (on_bytes (put slot step reading) b)
 answered (Call.Flip slot position) b = called (on_bytes (flip slot position) b)
@@ -27,5 +27,5 @@ answered Call.Survey b = record { line = survey_line (survey_in b); bytes = b }
 answered Call.Bytes b = record { line = bytes_line b; bytes = b }
 
 -- a list of puts
-unfoldable pub answered_list : ℕ → List ℕ → List ℕ → List ℕ → Answered
+abbrev pub answered_list : ℕ → List ℕ → List ℕ → List ℕ → Answered
 answered_list start steps readings b = called (on_bytes (put_list start steps readings) b)

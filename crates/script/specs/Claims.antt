@@ -1,15 +1,13 @@
 -- What is claimed of a script's lines and calls. Each claim is a theorem of the same name, in lower case, in proofs/Claims.
-use Rattle.std.specs.Prelude.{◌≡◌, true, false, List, [], ◌∷◌, ◌++◌, map, ℕ, ◌<◌, ◌≤◌, length, take, replicate}
-use Rattle.std.proofs.Math.Option.{none, some}
+use Rattle.std.specs.Prelude.{◌≡◌, Some, None, Ok, Err, List, [], ◌∷◌, ◌++◌, map, ℕ, ◌<◌, ◌≤◌, length, replicate}
 use Prim.Native.String.{String}
 use Rattle.trace.specs.Claims.{example_bytes}
 use Rattle.lines.specs.Claims.{example_file}
 use Rattle.script.specs.declared.line.Call.{Call}
 use Rattle.script.specs.declared.line.Command.{Command}
-use Rattle.script.specs.declared.lending.Lent.{Lent}
-use Rattle.script.specs.declared.lists.Lists.{Lists}
-use Rattle.script.specs.Held.{is_whole, Holding, holding, hold_all}
-use Rattle.script.specs.declared.numbers.Number.{Number}
+use Rattle.script.specs.declared.lending.NotTaken.{NotTaken}
+use Rattle.script.specs.declared.lists.Puts.{Puts}
+use Rattle.script.specs.Held.{hold_all}
 use Rattle.script.specs.Script.{text, number_of, number_list, PutList, hex_value, meaning, argument}
 use Rattle.script.specs.Lending.{zeros, line_lends, lending, over, lend_in}
 use Rattle.script.specs.Lists.{line_puts, both_lists, taking, taken, take_in}
@@ -65,36 +63,39 @@ pub record LinesMean : Type 0 where
 
 -- what they lend, which file they name, and what lent bytes make of a buffer
 pub record LinesLend : Type 0 where
-  pub size : line_lends (text "buffer 100000") ≡ some (zeros 100000)
-  pub pairs : line_lends (text "hex 00 fF\t2c ") ≡ some (0x00 ∷ 0xFF ∷ 0x2C ∷ [])
-  pub digits : line_lends (text "hex 09AFaf") ≡ some (0x09 ∷ 0xAF ∷ 0xAF ∷ [])
-  pub no_digits : map hex_value (text "/:@G`g") ≡ replicate 6 16
-  pub call : line_lends (text "read 0") ≡ none
+  pub size : line_lends (text "buffer 100000") ≡ Some (zeros 100000)
+  pub pairs : line_lends (text "hex 00 fF\t2c ") ≡ Some (0x00 ∷ 0xFF ∷ 0x2C ∷ [])
+  pub digits : line_lends (text "hex 09AFaf") ≡ Some (0x09 ∷ 0xAF ∷ 0xAF ∷ [])
+  pub no_digits : map hex_value (text "/:@G`g") ≡ replicate 6 None
+  pub call : line_lends (text "read 0") ≡ None
   pub name : argument (text " open  bed 3.trace \r") ≡ text "bed 3.trace"
-  pub front : lend_in (some (1 ∷ 2 ∷ [])) (7 ∷ 8 ∷ 9 ∷ []) ≡ lending (Lent.Bytes 2) (1 ∷ 2 ∷ 9 ∷ [])
-  pub fits : lend_in (some (1 ∷ 2 ∷ 3 ∷ [])) (7 ∷ 8 ∷ 9 ∷ []) ≡ lending (Lent.Bytes 3) (1 ∷ 2 ∷ 3 ∷ [])
-  pub too_many : lend_in (some (1 ∷ 2 ∷ 3 ∷ 4 ∷ [])) (7 ∷ 8 ∷ 9 ∷ []) ≡ lending Lent.TooMany (7 ∷ 8 ∷ 9 ∷ [])
-  pub nothing : lend_in none (7 ∷ 8 ∷ 9 ∷ []) ≡ lending Lent.Nothing (7 ∷ 8 ∷ 9 ∷ [])
+  pub front : lend_in (Some (1 ∷ 2 ∷ [])) (7 ∷ 8 ∷ 9 ∷ []) ≡ lending (Ok 2) (1 ∷ 2 ∷ 9 ∷ [])
+  pub fits : lend_in (Some (1 ∷ 2 ∷ 3 ∷ [])) (7 ∷ 8 ∷ 9 ∷ []) ≡ lending (Ok 3) (1 ∷ 2 ∷ 3 ∷ [])
+  pub too_many : lend_in (Some (1 ∷ 2 ∷ 3 ∷ 4 ∷ [])) (7 ∷ 8 ∷ 9 ∷ []) ≡ lending (Err NotTaken.TooMany) (7 ∷ 8 ∷ 9 ∷ [])
+  pub nothing : lend_in None (7 ∷ 8 ∷ 9 ∷ []) ≡ lending (Err NotTaken.Nothing) (7 ∷ 8 ∷ 9 ∷ [])
 
 -- ---- lines that ask for a list of puts
 
 abbrev pub puts_from : ℕ → List ℕ → List ℕ → PutList
 puts_from start steps readings = record { start = start; steps = steps; readings = readings }
 
+abbrev pub sizes : ℕ → ℕ → ℕ → Puts
+sizes start steps readings = record { start = start; steps = steps; readings = readings }
+
 -- which list of puts they ask for, and what lists make of a buffer of numbers
 pub record LinesPut : Type 0 where
-  pub puts : line_puts (text "puts 1 7,8 100,200") ≡ some (puts_from 1 (7 ∷ 8 ∷ []) (100 ∷ 200 ∷ []))
+  pub puts : line_puts (text "puts 1 7,8 100,200") ≡ Some (puts_from 1 (7 ∷ 8 ∷ []) (100 ∷ 200 ∷ []))
   pub several : line_puts (text "puts 3990 127,0,64,1 1310,4095,0,7,1024")
-      ≡ some (puts_from 3990 (127 ∷ 0 ∷ 64 ∷ 1 ∷ []) (1310 ∷ 4095 ∷ 0 ∷ 7 ∷ 1024 ∷ []))
-  pub empty : line_puts (text "puts 0 - -") ≡ some (puts_from 0 [] [])
-  pub uneven : line_puts (text " puts\t2  - 1 \r") ≡ some (puts_from 2 [] (1 ∷ []))
+      ≡ Some (puts_from 3990 (127 ∷ 0 ∷ 64 ∷ 1 ∷ []) (1310 ∷ 4095 ∷ 0 ∷ 7 ∷ 1024 ∷ []))
+  pub empty : line_puts (text "puts 0 - -") ≡ Some (puts_from 0 [] [])
+  pub uneven : line_puts (text " puts\t2  - 1 \r") ≡ Some (puts_from 2 [] (1 ∷ []))
   pub largest : line_puts (text "puts 18446744073709551615 007,18446744073709551615 0")
-      ≡ some (puts_from 18446744073709551615 (7 ∷ 18446744073709551615 ∷ []) (0 ∷ []))
-  pub put : line_puts (text "put 1 7 100") ≡ none
-  pub front : take_in (some (puts_from 3 (4 ∷ []) (5 ∷ 6 ∷ []))) (7 ∷ 8 ∷ 9 ∷ 10 ∷ []) ≡ taking (Lists.Taken 3 1 2) (4 ∷ 5 ∷ 6 ∷ 10 ∷ [])
-  pub fits : take_in (some (puts_from 3 (4 ∷ []) (5 ∷ 6 ∷ []))) (7 ∷ 8 ∷ 9 ∷ []) ≡ taking (Lists.Taken 3 1 2) (4 ∷ 5 ∷ 6 ∷ [])
-  pub too_many : take_in (some (puts_from 3 (4 ∷ []) (5 ∷ 6 ∷ []))) (7 ∷ 8 ∷ []) ≡ taking Lists.TooMany (7 ∷ 8 ∷ [])
-  pub nothing : take_in none (7 ∷ 8 ∷ []) ≡ taking Lists.Nothing (7 ∷ 8 ∷ [])
+      ≡ Some (puts_from 18446744073709551615 (7 ∷ 18446744073709551615 ∷ []) (0 ∷ []))
+  pub put : line_puts (text "put 1 7 100") ≡ None
+  pub front : take_in (Some (puts_from 3 (4 ∷ []) (5 ∷ 6 ∷ []))) (7 ∷ 8 ∷ 9 ∷ 10 ∷ []) ≡ taking (Ok (sizes 3 1 2)) (4 ∷ 5 ∷ 6 ∷ 10 ∷ [])
+  pub fits : take_in (Some (puts_from 3 (4 ∷ []) (5 ∷ 6 ∷ []))) (7 ∷ 8 ∷ 9 ∷ []) ≡ taking (Ok (sizes 3 1 2)) (4 ∷ 5 ∷ 6 ∷ [])
+  pub too_many : take_in (Some (puts_from 3 (4 ∷ []) (5 ∷ 6 ∷ []))) (7 ∷ 8 ∷ []) ≡ taking (Err NotTaken.TooMany) (7 ∷ 8 ∷ [])
+  pub nothing : take_in None (7 ∷ 8 ∷ []) ≡ taking (Err NotTaken.Nothing) (7 ∷ 8 ∷ [])
 
 -- words with a comma between any two
 unfoldable pub joined : List (List ℕ) → List ℕ
@@ -107,30 +108,24 @@ abbrev pub AreNumbers : List (List ℕ) → List ℕ → Type 0
 AreNumbers [] [] = Unit {0}
 AreNumbers [] (n ∷ ns) = ⊥
 AreNumbers (w ∷ ws) [] = ⊥
-AreNumbers (w ∷ ws) (n ∷ ns) = (number_of w ≡ Number.Is n) × AreNumbers ws ns
+AreNumbers (w ∷ ws) (n ∷ ns) = (number_of w ≡ Some n) × AreNumbers ws ns
 
 -- a list may be of any length: numbers with a comma between any two are read, all of them, in order
 abbrev pub ListsRead : Type 0
-ListsRead = (ws : List (List ℕ)) (n : ℕ) (ns : List ℕ) → AreNumbers ws (n ∷ ns) → number_list (joined ws) ≡ some (n ∷ ns)
+ListsRead = (ws : List (List ℕ)) (n : ℕ) (ns : List ℕ) → AreNumbers ws (n ∷ ns) → number_list (joined ws) ≡ Some (n ∷ ns)
 
 -- a buffer of 100,000 numbers has room for every list of puts of a line of at most 200,000 bytes
 abbrev pub ListsFit : Type 0
 ListsFit =
-    (line numbers : List ℕ) (puts : PutList) → length line ≤ 200000 → length numbers ≡ 100000 → line_puts line ≡ some puts
-    → take_in (line_puts line) numbers ≡ taking (taken puts) (over (both_lists puts) numbers)
+    (line numbers : List ℕ) (puts : PutList) → length line ≤ 200000 → length numbers ≡ 100000 → line_puts line ≡ Some puts
+    → take_in (line_puts line) numbers ≡ taking (Ok (taken puts)) (over (both_lists puts) numbers)
 
 -- ---- lines that are taken byte by byte
 
--- as many bytes are held as a line has, they are said to be a whole line, and they are the line
-pub record IsHeld (line : List ℕ) (h : Holding) : Type 0 where
-  pub count : h.count ≡ length line
-  pub whole : is_whole h.count ≡ true
-  pub bytes : take h.count h.buffer ≡ line
-
--- a line of at most 200,000 bytes is held as it is, in a buffer with room for as many; what is held of a longer one is said to be no whole line
+-- a line of at most 200,000 bytes is held as it is, and a longer one is told apart
 pub record LinesHeld : Type 0 where
-  pub held : (line buffer : List ℕ) → length buffer ≡ 200000 → length line ≤ 200000 → IsHeld line (hold_all line (holding buffer 0))
-  pub long : (line buffer : List ℕ) → 200000 < length line → is_whole (hold_all line (holding buffer 0)).count ≡ false
+  pub held : (line : List ℕ) → length line ≤ 200000 → hold_all line (Some []) ≡ Some line
+  pub long : (line : List ℕ) → 200000 < length line → hold_all line (Some []) ≡ None
 
 -- ---- calls
 

@@ -1,30 +1,46 @@
 // A line that is taken byte by byte.
-ghost use Rattle.std.specs.Prelude.{◌≡◌, length};
-ghost use Rattle.script.specs.Held.{longest_line, is_whole, holding, hold};
+ghost use Rattle.std.specs.Prelude.{◌≡◌, ◌↔◌, Some, [], option_map, IsTrue};
+ghost use Rattle.script.specs.Held.{hold};
+
+use arrayvec::ArrayVec;
 
 // A line has at most this many bytes: room for `hex`, and a blank and two digits for each of the 65,536 bytes of the longest buffer.
 pub const LINE: usize = 200000;
 
-// How many bytes are said to be held of a line that has more.
-const TOO_LONG: usize = LINE + 1;
-
-// Holds one more byte of a line, of which `held` bytes are held, and answers how many are held then. Beyond the longest line it stores
-// nothing, and answers a number that `is_whole` refuses.
-pub fn hold(byte: u8, line: &mut [u8; LINE], held: usize) -> usize
-    ensures { (length line.old ≡ longest_line)
-        × (holding line.new result ≡ hold byte (holding line.old held)) }
-{
-    let bytes: &mut [u8] = line;
-    if bytes.len() <= held {
-        return TOO_LONG;
-    }
-    bytes[held] = byte;
-    held + 1
+// A line as far as it is taken, or none where it has more bytes than a line may have.
+#[derive(Drop)]
+pub struct Held {
+    pub line: Option<ArrayVec<u8, LINE>>,
 }
 
-// Whether so many bytes that are held are a whole line.
-pub fn is_whole(held: usize) -> bool
-    ensures { result ≡ is_whole held }
-{
-    held <= LINE
+impl Held {
+    // A line of which nothing is taken.
+    pub fn new() -> Self
+        ensures { option_map (λ l. l.items) result.line ≡ Some [] }
+    {
+        Held {
+            line: Some(ArrayVec::new()),
+        }
+    }
+
+    // Whether nothing is taken.
+    pub fn is_empty(&self) -> bool
+        ensures { IsTrue result ↔ (option_map (λ l. l.items) self.now.line ≡ Some []) }
+    {
+        match &self.line {
+            Some(line) => line.is_empty(),
+            None => false,
+        }
+    }
+
+    // Takes one more byte.
+    pub fn hold(&mut self, byte: u8)
+        ensures { option_map (λ l. l.items) self.new.line ≡ hold byte (option_map (λ l. l.items) self.old.line) }
+    {
+        if let Some(line) = &mut self.line {
+            if line.try_push(byte).is_err() {
+                self.line = None;
+            }
+        }
+    }
 }

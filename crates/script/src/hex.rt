@@ -1,75 +1,89 @@
 // Bytes in hexadecimal: pairs of digits, with any blanks between the pairs.
-ghost use Rattle.std.specs.Prelude.{◌≡◌, ◌<◌, ◌≤◌, length};
+ghost use Rattle.std.specs.Prelude.{◌≡◌, ◌<◌, ◌≤◌, Some, length, option_map, IfSome};
 ghost use Rattle.script.specs.Script.{hex_value, hex_byte, hex_bytes};
 ghost use Rattle.script.specs.Lending.{over};
-ghost use Rattle.script.specs.ContractsOfSteps.{is_pair_at, counted_on, list_of, IsList};
+ghost use Rattle.script.specs.ContractsOfSteps.{list_of, IsList};
 
-use crate::numbers::Counted;
 use crate::parts::skip_blanks;
 
-// What stands for the value of a byte that is no digit.
-const NO_DIGIT: u8 = 16;
-
-// The value of a hexadecimal digit in either case; 16 of any other byte.
-fn hex_value(byte: u8) -> u8
-    ensures { result ≡ hex_value byte }
+// The value of a hexadecimal digit in either case.
+fn hex_value(byte: u8) -> Option<u8>
+    ensures value { result ≡ hex_value byte }
+    ensures digit { IfSome result (λ value. value < 16) }
 {
     match byte {
-        b'0'..=b'9' => byte - b'0',
-        b'A'..=b'F' => byte - b'A' + 10,
-        b'a'..=b'f' => byte - b'a' + 10,
-        _ => NO_DIGIT,
+        b'0'..=b'9' => Some(byte - b'0'),
+        b'A'..=b'F' => Some(byte - b'A' + 10),
+        b'a'..=b'f' => Some(byte - b'a' + 10),
+        _ => None,
     }
 }
 
 // The byte of two digits.
-fn hex_byte(high: u8, low: u8) -> u8
-    requires { (hex_value high < 16) × (hex_value low < 16) }
+fn hex_byte(high: u8, low: u8) -> Option<u8>
     ensures { result ≡ hex_byte high low }
 {
-    hex_value(high) * 16 + hex_value(low)
+    Some(hex_value(high)? * 16 + hex_value(low)?)
 }
 
-// Whether two digits stand at a place of a text.
-fn is_pair(text: &[u8], at: usize) -> bool
-    requires { at < length text.now }
-    ensures { result ≡ is_pair_at text.now at }
-{
-    if text.len() - at < 2 {
-        return false;
+// The bytes of a text, one after the other, each of which may be none that can be read.
+#[derive(Drop)]
+struct Pairs<'a>(&'a [u8]);
+
+impl<'a> Iterator for Pairs<'a> {
+    ghost use Rattle.std.specs.Iterator.{YieldsFirst, item_count};
+    ghost use Rattle.script.specs.ContractsOfSteps.{pairs_left};
+
+    type Item = Option<u8>;
+
+    ghost next_gives = { YieldsFirst pairs_left };
+
+    ghost remaining = { item_count pairs_left };
+
+    fn next(&mut self) -> Option<Option<u8>> {
+        let text = skip_blanks(self.0);
+        match text {
+            [high, low, rest @ ..] => {
+                self.0 = rest;
+                Some(hex_byte(*high, *low))
+            }
+            [_, rest @ ..] => {
+                self.0 = rest;
+                Some(None)
+            }
+            [] => {
+                self.0 = text;
+                None
+            }
+        }
     }
-    if NO_DIGIT <= hex_value(text[at]) {
-        return false;
-    }
-    hex_value(text[at + 1]) < NO_DIGIT
 }
 
 // How many bytes a text is in hexadecimal.
-pub(crate) fn count_pairs(text: &[u8]) -> Counted
-    ensures { result ≡ counted_on 0 (hex_bytes text.now) }
+pub(crate) fn count_pairs(text: &[u8]) -> Option<usize>
+    ensures { result ≡ option_map length (hex_bytes text.now) }
 {
     let mut n = 0;
-    let mut at = skip_blanks(text, 0);
-    while at < text.len() {
-        if !is_pair(text, at) {
-            return Counted::Unreadable;
-        }
+    for pair in Pairs(text) {
+        pair?;
         n += 1;
-        at = skip_blanks(text, at + 2);
     }
-    Counted::Are(n)
+    Some(n)
 }
 
 // Writes the bytes that a text is in hexadecimal over the front of a buffer that has room for them.
 pub(crate) fn write_pairs(text: &[u8], buffer: &mut [u8])
-    requires { IsList (hex_bytes text.now) × (length (list_of (hex_bytes text.now)) ≤ length buffer.old) }
+    requires are { IsList (hex_bytes text.now) }
+    requires fit { length (list_of (hex_bytes text.now)) ≤ length buffer.old }
     ensures { buffer.new ≡ over (list_of (hex_bytes text.now)) buffer.old }
 {
+    // `enumerate`: tried, and the proof didn't close.
     let mut i = 0;
-    let mut at = skip_blanks(text, 0);
-    while at < text.len() {
-        buffer[i] = hex_byte(text[at], text[at + 1]);
+    for pair in Pairs(text) {
+        let Some(byte) = pair else {
+            return;
+        };
+        buffer[i] = byte;
         i += 1;
-        at = skip_blanks(text, at + 2);
     }
 }

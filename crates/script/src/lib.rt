@@ -14,9 +14,9 @@ mod taking;
 mod words;
 
 pub use answering::{answer, answer_list};
-pub use held::{LINE, hold, is_whole};
-pub use lending::{Lent, lend, lend_input};
+pub use held::{Held, LINE};
+pub use lending::{NotTaken, lend, lend_bytes};
 pub use line::{Call, Command, parse_line};
-pub use lists::Lists;
-pub use parts::{Part, argument, bare};
+pub use lists::Puts;
+pub use parts::{argument, bare};
 pub use taking::{NUMBERS, take_lists};

@@ -1,13 +1,12 @@
 // A line as a command.
-ghost use Rattle.std.specs.Prelude.{◌≡◌};
+ghost use Rattle.std.specs.Prelude.{◌≡◌, Some};
 ghost use Rattle.script.specs.Script.{words, put_list_of, hex_bytes, hex_command, file_command, list_command, load_command};
 ghost use Rattle.script.specs.Script.{numbered, commands, chosen, spoken, meaning};
 
 use crate::hex::count_pairs;
-use crate::lists::{Lists, count_lists};
-use crate::numbers::{Counted, Numbers, parse_numbers};
-use crate::parts::{bare, skip_blanks, word_end};
-use crate::words::says;
+use crate::lists::count_lists;
+use crate::numbers::parse_numbers;
+use crate::parts::{bare, skip_blanks, split_word};
 
 // A call on the lent bytes.
 #[derive(Clone, Copy)]
@@ -47,84 +46,33 @@ pub enum Command {
     Unreadable,
 }
 
-// The commands without numbers.
-fn with_none(name: &[u8]) -> Command
-    ensures { result ≡ chosen name.now (numbered Numbers.None) }
-{
-    if says(name, b"survey") {
-        return Command::Call(Call::Survey);
-    }
-    if says(name, b"bytes") {
-        return Command::Call(Call::Bytes);
-    }
-    Command::Unreadable
-}
-
-// The commands with one number.
-fn with_one(name: &[u8], a: u64) -> Command
-    ensures { result ≡ chosen name.now (numbered (Numbers.One a)) }
-{
-    if says(name, b"buffer") {
-        return Command::Buffer(a);
-    }
-    if says(name, b"clear") {
-        return Command::Call(Call::Clear(a));
-    }
-    if says(name, b"read") {
-        return Command::Call(Call::Read(a));
-    }
-    Command::Unreadable
-}
-
-// The commands with two numbers.
-fn with_two(name: &[u8], a: u64, b: u64) -> Command
-    ensures { result ≡ chosen name.now (numbered (Numbers.Two a b)) }
-{
-    if says(name, b"make") {
-        return Command::Call(Call::Make(a, b));
-    }
-    if says(name, b"flip") {
-        return Command::Call(Call::Flip(a, b));
-    }
-    if says(name, b"mark") {
-        return Command::Call(Call::Mark(a, b));
-    }
-    Command::Unreadable
-}
-
 // A load, where 32 bits hold its seed.
-fn with_seed(slot: u64, seed: u64, count: u64) -> Command
+fn load(slot: u64, seed: u64, count: u64) -> Command
     ensures { result ≡ load_command slot seed count }
 {
-    if (u32::MAX as u64) < seed {
-        return Command::Unreadable;
+    match u32::try_from(seed) {
+        Ok(seed) => Command::Call(Call::Load(slot, seed, count)),
+        Err(_) => Command::Unreadable,
     }
-    Command::Call(Call::Load(slot, seed as u32, count))
 }
 
-// The commands with three numbers.
-fn with_three(name: &[u8], a: u64, b: u64, c: u64) -> Command
-    ensures { result ≡ chosen name.now (numbered (Numbers.Three a b c)) }
+// The command of this name with these numbers.
+fn with_numbers(name: &[u8], numbers: &[u64]) -> Command
+    ensures { result ≡ chosen name.now (numbered (Some numbers.now)) }
 {
-    if says(name, b"put") {
-        return Command::Call(Call::Put(a, b, c));
-    }
-    if says(name, b"load") {
-        return with_seed(a, b, c);
-    }
-    Command::Unreadable
-}
-
-// The command of this name that has as many numbers.
-fn with_numbers(name: &[u8], all: Numbers) -> Command
-    ensures { result ≡ chosen name.now (numbered all) }
-{
-    match all {
-        Numbers::None => with_none(name),
-        Numbers::One(a) => with_one(name, a),
-        Numbers::Two(a, b) => with_two(name, a, b),
-        Numbers::Three(a, b, c) => with_three(name, a, b, c),
-        Numbers::Unreadable => Command::Unreadable,
+    let is = |word: &[u8]| name == word;
+    match numbers {
+        [] if is(b"survey") => Command::Call(Call::Survey),
+        [] if is(b"bytes") => Command::Call(Call::Bytes),
+        [size] if is(b"buffer") => Command::Buffer(*size),
+        [slot] if is(b"clear") => Command::Call(Call::Clear(*slot)),
+        [slot] if is(b"read") => Command::Call(Call::Read(*slot)),
+        [code, slots] if is(b"make") => Command::Call(Call::Make(*code, *slots)),
+        [slot, position] if is(b"flip") => Command::Call(Call::Flip(*slot, *position)),
+        [slot, position] if is(b"mark") => Command::Call(Call::Mark(*slot, *position)),
+        [slot, step, reading] if is(b"put") => Command::Call(Call::Put(*slot, *step, *reading)),
+        [slot, seed, count] if is(b"load") => load(*slot, *seed, *count),
+        _ => Command::Unreadable,
     }
 }
 
@@ -132,7 +80,7 @@ fn with_numbers(name: &[u8], all: Numbers) -> Command
 fn with_pairs(argument: &[u8]) -> Command
     ensures { result ≡ hex_command (hex_bytes argument.now) }
 {
-    let Counted::Are(n) = count_pairs(argument) else {
+    let Some(n) = count_pairs(argument) else {
         return Command::Unreadable;
     };
     if n == 0 {
@@ -145,7 +93,7 @@ fn with_pairs(argument: &[u8]) -> Command
 fn with_file(argument: &[u8], command: Command) -> Command
     ensures { result ≡ file_command command argument.now }
 {
-    if argument.len() == 0 {
+    if argument.is_empty() {
         return Command::Unreadable;
     }
     command
@@ -155,52 +103,52 @@ fn with_file(argument: &[u8], command: Command) -> Command
 fn with_lists(argument: &[u8]) -> Command
     ensures { result ≡ list_command (put_list_of (words argument.now)) }
 {
-    let Lists::Taken(_, _, _) = count_lists(argument) else {
-        return Command::Unreadable;
-    };
-    Command::PutList
+    match count_lists(argument) {
+        Some(_) => Command::PutList,
+        None => Command::Unreadable,
+    }
 }
 
 // The command of this name with this argument.
 fn named(name: &[u8], argument: &[u8]) -> Command
     ensures { result ≡ chosen name.now (commands argument.now) }
 {
-    if says(name, b"hex") {
+    let is = |word: &[u8]| name == word;
+    if is(b"hex") {
         return with_pairs(argument);
     }
-    if says(name, b"open") {
+    if is(b"open") {
         return with_file(argument, Command::Open);
     }
-    if says(name, b"save") {
+    if is(b"save") {
         return with_file(argument, Command::Save);
     }
-    if says(name, b"puts") {
+    if is(b"puts") {
         return with_lists(argument);
     }
-    with_numbers(name, parse_numbers(argument))
+    match parse_numbers(argument) {
+        Some(numbers) => with_numbers(name, numbers.as_slice()),
+        None => Command::Unreadable,
+    }
 }
 
 // What a line without blanks at its ends asks for: `#` begins a comment.
 fn parse_bare(text: &[u8]) -> Command
     ensures { result ≡ spoken text.now }
 {
-    if text.len() == 0 {
-        return Command::Nothing;
+    match text {
+        [] => Command::Nothing,
+        [b'#', ..] => Command::Nothing,
+        _ => {
+            let (name, rest) = split_word(text);
+            named(name, skip_blanks(rest))
+        }
     }
-    if text[0] == b'#' {
-        return Command::Nothing;
-    }
-    let end = word_end(text, 0);
-    let from = skip_blanks(text, end);
-    named(&text[..end], &text[from..])
 }
 
 // What a line asks for.
 pub fn parse_line(line: &[u8]) -> Command
     ensures { result ≡ meaning line.now }
 {
-    let part = bare(line);
-    let from = part.from;
-    let to = part.to;
-    parse_bare(&line[from..to])
+    parse_bare(bare(line))
 }

@@ -1,47 +1,41 @@
 // The words of a text.
-ghost use Rattle.std.specs.Prelude.{◌≡◌, ◌≤◌, length};
-ghost use Rattle.script.specs.Script.{is};
-ghost use Rattle.script.specs.ContractsOfSteps.{IsWord, Split};
+ghost use Rattle.std.specs.Prelude.{◌≡◌, None, [], ◌∷◌, MatchOption};
+ghost use Rattle.script.specs.Script.{words, put_list_of};
 
-use crate::parts::{Part, skip_blanks, word_end};
-use check::same;
+use crate::parts::{skip_blanks, split_word};
 
-// The three words of a text, or that it has more. Of fewer words the last are empty.
-#[derive(Clone, Copy)]
-pub(crate) enum Words {
-    Three(Part, Part, Part),
-    Other,
-}
+// The words of a text, one after the other.
+#[derive(Drop)]
+pub(crate) struct Words<'a>(pub(crate) &'a [u8]);
 
-// Whether a name is this word.
-pub(crate) fn says(name: &[u8], word: &[u8]) -> bool
-    ensures { result ≡ is name.now word.now }
-{
-    same(name, word)
-}
+impl<'a> Iterator for Words<'a> {
+    ghost use Rattle.std.specs.Iterator.{YieldsFirstBy, item_count};
+    ghost use Rattle.script.specs.ContractsOfSteps.{words_left};
 
-// The first word from `from` on; an empty one at the end, where there is none.
-fn next_word(text: &[u8], from: usize) -> Part
-    requires { from ≤ length text.now }
-    ensures { IsWord text.now from result }
-{
-    let start = skip_blanks(text, from);
-    Part {
-        from: start,
-        to: word_end(text, start),
+    type Item = &'a [u8];
+
+    ghost next_gives = { YieldsFirstBy (λ word. word.now) words_left };
+
+    ghost remaining = { item_count words_left };
+
+    fn next(&mut self) -> Option<&'a [u8]> {
+        let (word, rest) = split_word(skip_blanks(self.0));
+        self.0 = rest;
+        if word.is_empty() { None } else { Some(word) }
     }
 }
 
-// The three words of a text.
-pub(crate) fn three_words(text: &[u8]) -> Words
-    ensures { Split text.now result }
+// The three words of a text, which alone may be a list of puts.
+pub(crate) fn three_words(text: &[u8]) -> Option<(&[u8], &[u8], &[u8])>
+    ensures { MatchOption result (put_list_of (words text.now) ≡ None)
+        (λ three. words text.now ≡ three.0.now ∷ (three.1.now ∷ (three.2.now ∷ []))) }
 {
-    let first = next_word(text, 0);
-    let second = next_word(text, first.to);
-    let third = next_word(text, second.to);
-    let rest = skip_blanks(text, third.to);
-    if rest < text.len() {
-        return Words::Other;
+    let mut words = Words(text);
+    let first = words.next()?;
+    let second = words.next()?;
+    let third = words.next()?;
+    match words.next() {
+        None => Some((first, second, third)),
+        Some(_) => None,
     }
-    Words::Three(first, second, third)
 }

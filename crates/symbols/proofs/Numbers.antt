@@ -1,4 +1,4 @@
--- Bits, symbols and columns as numbers: there and back, modulo 2, 4 and 16, and tables that are indexed by such numbers.
+-- Bits, symbols and columns as numbers: there and back, modulo 2, 4 and 16.
 -- There and back is a test over the type, or over the numbers below the base. A number's lowest bits are those of its remainder, so what
 -- is tested below 4 or 16 holds of every number, taken modulo 4 or 16.
 use mathlib.Core.Path.{◌≡◌, sym, ap, ap₂, ◌∙◌}
@@ -8,7 +8,7 @@ use native.Mathlib.Nat.{mod-lt}
 use lib.Dec.{T, lit<, leb, ltb, ltb→lt}
 use lib.Pow.{field, mod-mod-pow}
 use Rattle.symbols.specs.Symbol.{Symbol, Symbol-discrete, symbol, symbol_number, symbol_of, has_bit}
-use Rattle.symbols.specs.Column.{Column, Column-discrete, one, column_of, column_number}
+use Rattle.symbols.specs.Column.{Column-discrete, one, column_of, column_number}
 use Rattle.symbols.specs.Claims.{Counted}
 use Rattle.symbols.proofs.Every.{Every, bits, symbols, columns, below, passes, law, law_le, law_below, law_below_both, number_discrete}
 
@@ -47,16 +47,11 @@ symbols_counted = counted symbols Symbol-discrete 4 symbol_of symbol_number tt t
 pub columns_counted : Counted 16 column_of column_number
 columns_counted = counted columns (Column-discrete Bool-discrete) 16 column_of column_number tt tt tt tt column_mod
 
--- a table that is packed into one number w, over the columns or over pairs of symbols: f reads an entry of it. Where each entry
--- agrees with the rule g, so does what is read at any number
-pub by_column : {B : Type 0} (d : Discrete B) (f : ℕ → ℕ → B) (w : ℕ) (g : Column → B) →
-    T (below 16 (λ k. passes (d (f w k) (g (column_of k))))) → (n : ℕ) → f w (n % 16) ≡ g (column_of n)
-by_column d f w g t n = law_below 16 d (f w) (λ k. g (column_of k)) t (n % 16) (mod-lt n (lit< tt)) ∙ ap g (column_mod n)
-
-pub by_symbols : (f : ℕ → ℕ → ℕ → ℕ) (w : ℕ) (g : Symbol → Symbol → Symbol) →
-    T (below 4 (λ x. below 4 (λ y. passes (number_discrete (f w x y) (symbol_number (g (symbol_of x) (symbol_of y))))))) →
-    (x y : ℕ) → f w (x % 4) (y % 4) ≡ symbol_number (g (symbol_of x) (symbol_of y))
-by_symbols f w g t x y =
-    law_below_both 4 number_discrete (f w) (λ x y. symbol_number (g (symbol_of x) (symbol_of y))) t
+-- a function of two numbers agrees with one of two symbols at every number, taken modulo 4, where it does below 4
+pub by_symbols : (f : ℕ → ℕ → ℕ) (g : Symbol → Symbol → Symbol) →
+    T (below 4 (λ x. below 4 (λ y. passes (number_discrete (f x y) (symbol_number (g (symbol_of x) (symbol_of y))))))) →
+    (x y : ℕ) → f (x % 4) (y % 4) ≡ symbol_number (g (symbol_of x) (symbol_of y))
+by_symbols f g t x y =
+    law_below_both 4 number_discrete f (λ x y. symbol_number (g (symbol_of x) (symbol_of y))) t
     (x % 4) (y % 4) (mod-lt x (lit< tt)) (mod-lt y (lit< tt))
     ∙ rw (symbol_mod x, symbol_mod y)

@@ -67,7 +67,7 @@ pub fn weight(column: u8) -> u8
 pub fn one(bit: bool) -> u8
     ensures { result ≡ one bit }
 {
-    if bit { 1 } else { 0 }
+    u8::from(bit)
 }
 
 // The column with a given parity, value and top bit.

@@ -1,155 +1,111 @@
 -- A change of a slot in a buffer: its rows are those of the trailer, that of its slot, and its own. Where the first refuse, so does the call,
 -- and nothing changes; where they pass, its own rows decide, by the slot's content alone; where all pass, the new content is stored.
-use Rattle.std.proofs.Common.{◌≡◌, ℕ, ◌<◌, ◌≤◌, List, [], ◌∷◌, sym, refl, ◌∙◌, arith, le-ltb, le-leb}
+use Rattle.std.proofs.Common.{◌≡◌, ℕ, ◌<◌, ◌≤◌, List, [], ◌∷◌, refl, ◌∙◌, ⊎_elim, le-ltb}
 use lib.Bits.{bit_xor, bit_or}
 use borrow.Author.Tests.{lt-leb}
-use Rattle.codes.specs.declared.code.Code.{Code}
-use Rattle.codes.specs.Answer.{accepted, refused, Row, Passes, Refuses}
+use Rattle.std.specs.Prelude.{Result, Ok, Err}
+use Rattle.codes.specs.Answer.{Answer, accepted, refused, Passes, Refuses}
 use Rattle.codes.specs.Projection.{Projection, width}
-use Rattle.codes.specs.Message.{encode}
 use Rattle.codes.specs.Codes.{projection, step_limit}
-use Rattle.trace.specs.declared.layout.Place.{Place}
 use Rattle.trace.specs.declared.layout.Header.{Header}
+use Rattle.trace.specs.declared.layout.Found.{Found}
 use Rattle.trace.specs.declared.slot.Content.{Content}
-use Rattle.trace.specs.declared.change.Change.{Change}
-use Rattle.trace.specs.declared.change.Changed.{Changed}
+use Rattle.trace.specs.declared.slot.Held.{Held}
 use Rattle.trace.specs.declared.answer.Refusal.{Refusal}
-use Rattle.trace.specs.declared.answer.Done.{Done}
-use Rattle.trace.specs.declared.answer.LoadAnswer.{LoadAnswer}
-use Rattle.trace.specs.declared.loads.Load.{Load}
 use Rattle.trace.specs.Layout.{count_in, place_from, content_bytes, store_at}
-use Rattle.trace.specs.Calls.{Call, put_list, after, outcome}
-use Rattle.trace.specs.Answers.{refusal_number, done_answer}
+use Rattle.trace.specs.Calls.{Call, put, put_list, flip, mark, load, clear, after}
+use Rattle.trace.specs.Answers.{refusal_number, done_answer, load_answer}
 use Rattle.trace.specs.Load.{positions_of}
-use Rattle.trace.specs.View.{View, count_of, content_of, message_of, flip_content}
+use Rattle.trace.specs.View.{View, count_of, content_of, flip_content}
 use Rattle.trace.specs.Refusals.{no_slot}
-use Rattle.trace.specs.Rules.{bit_rows, load_rows, refusals, gives, put_all}
-use Rattle.trace.specs.Trace.{projection_in, slot_rows_in, view_in, trailer_rows, refusals_in, content_at, stored, put_in, on_bytes}
-use Rattle.trace.specs.ContractsOfSteps.{OpenedAs, FoundAt, call_of, done_of, answer_of, Unnumbered, SlotIn, ChangedTo, Changing, BitIn}
-use Rattle.trace.specs.ContractsOfSteps.{list_rows_of}
+use Rattle.trace.specs.Rules.{bit_rows, refusals, gives, put_all}
+use Rattle.trace.specs.Trace.{projection_in, slot_rows_in, view_in, trailer_rows, refusals_in, content_at, leaves, stored, put_in, on_bytes}
+use Rattle.trace.specs.ContractsOfSteps.{OpenedAs, FoundAt, Change, put_change, flip_change, mark_change, load_change, clear_change}
+use Rattle.trace.specs.ContractsOfSteps.{Changing, Step, StoredBy, RefusedBy, ChangedBy, BitIn, list_rows_of}
 use Rattle.trace.specs.ContractsOfLoad.{LoadOf}
 use Rattle.codes.proofs.Rows.{unless_passes, unless_refuses, passes_append, refuses_front, refuses_behind}
 use Rattle.trace.proofs.Views.{view_code, view_count}
 use Rattle.trace.proofs.PickLaws.{in_turn_lem}
 use Rattle.trace.proofs.TrailerKept.{stored_trailer, same_opened}
 
--- ---- the rows of each change, by what its slot holds
-
--- a put's step and reading
-module _ (π : Projection) (old : Content) (step reading : ℕ) where
-  pub step_large : step_limit π ≤ step → (v : View) (slot : ℕ) → SlotIn v slot π old → Refuses (refusals (call_of slot (Change.Put step reading)) v) 13
-  step_large h v slot i = rw (lt-leb _ _ i.there, i.code, le-leb _ _ h)
-
-  pub reading_large : step < step_limit π → 4096 ≤ reading
-      → (v : View) (slot : ℕ) → SlotIn v slot π old → Refuses (refusals (call_of slot (Change.Put step reading)) v) 13
-  reading_large hs hr v slot i = rw (lt-leb _ _ i.there, i.code, lt-leb _ _ hs, le-leb _ _ hr)
-
-  pub put_changed : step < step_limit π → reading < 4096 → (w : ℕ) → w ≡ encode π (message_of step reading)
-      → ChangedTo π old (Change.Put step reading) (Content.Written w 0) 0
-  put_changed hs hr w e =
-      record {
-        passes = λ v slot i. rw (lt-leb _ _ i.there, i.code, lt-leb _ _ hs, lt-leb _ _ hr);
-        gives = λ v slot. refl;
-        leaves = λ b slot code content. rw (code, e);
-      }
-
--- rows behind a slot's that go by the code and by what the slot holds
-module _ (rows : Projection → Content → List Row) (π : Projection) (old : Content) (v : View) (slot : ℕ) (i : SlotIn v slot π old) where
-  pub behind_refused : (k : ℕ) → Refuses (rows π old) k → Refuses (no_slot (count_of v) slot ∷ rows v.code (content_of v slot)) k
-  behind_refused k e = rw (lt-leb _ _ i.there, i.code, i.content) e
-
-  behind_passes : Passes (rows π old) → Passes (no_slot (count_of v) slot ∷ rows v.code (content_of v slot))
-  behind_passes e = rw (lt-leb _ _ i.there, i.code, i.content) e
+-- ---- what each step gives
 
 -- a flip's and a mark's position
 module _ (π : Projection) (old : Content) (position w m x : ℕ) (t : BitIn π old position w m x) where
-  bit_passes : (v : View) (slot : ℕ) → SlotIn v slot π old → Passes (no_slot (count_of v) slot ∷ bit_rows v.code (content_of v slot) position)
-  bit_passes v slot i = behind_passes (λ π c. bit_rows π c position) π old v slot i (rw (t.content, lt-leb _ _ t.inside))
+  bit_passes : Passes (bit_rows π old position)
+  bit_passes = rw (t.content, lt-leb _ _ t.inside)
 
-  pub flip_changed : ChangedTo π old (Change.Flip position) (Content.Written (bit_xor w x) m) 0
-  flip_changed = record { passes = bit_passes; gives = λ v slot. refl; leaves = λ b slot code content. rw (code, content, t.content, t.bit) }
+  pub flip_changed : Changing done_answer (flip_change π old position) (Ok (Content.Written (bit_xor w x) m, tt))
+  flip_changed = (bit_passes, rw (t.content, t.bit), refl)
 
-  pub mark_changed : ChangedTo π old (Change.Mark position) (Content.Written w (bit_or m x)) 0
-  mark_changed = record { passes = bit_passes; gives = λ v slot. refl; leaves = λ b slot code content. rw (code, content, t.content, t.bit) }
+  pub mark_changed : Changing done_answer (mark_change π old position) (Ok (Content.Written w (bit_or m x), tt))
+  mark_changed = (bit_passes, rw (t.content, t.bit), refl)
 
 -- a load's draws
-pub load_changed : (π : Projection) (old : Content) (seed k w m : ℕ) (l : Load) → old ≡ Content.Written w m → k ≤ width π → LoadOf (width π) seed k l
-    → ChangedTo π old (Change.Load seed k) (Content.Written (bit_xor w l.picked) m) l.generator.number
-load_changed π old seed k w m l holds few drawn =
+pub load_changed : (π : Projection) (old : Content) (seed k w m last word : ℕ) → old ≡ Content.Written w m → k ≤ width π → LoadOf (width π) seed k last word
+    → Changing load_answer (load_change π old seed k) (Ok (Content.Written (bit_xor w word) m, last))
+load_changed π old seed k w m last word holds few drawn =
     let word_in_turn = in_turn_lem (width π) (flip_content π) (λ x. Content.Written x m) (λ p x. refl) (positions_of π seed k) w in
-    record {
-      passes = λ v slot i. behind_passes (λ π c. load_rows π c k) π old v slot i (rw (holds, le-ltb _ _ few));
-      gives = λ v slot. rw drawn.number;
-      leaves = λ b slot code content. rw (code, content, holds, word_in_turn, drawn.picked);
-    }
-
-pub clear_changed : (π : Projection) (old : Content) → ChangedTo π old Change.Clear Content.Blank 0
-clear_changed π old =
-    record { passes = λ v slot i. rw (lt-leb _ _ i.there); gives = λ v slot. refl; leaves = λ b slot code content. refl }
+    (rw (holds, le-ltb _ _ few), rw (holds, word_in_turn, drawn.picked), rw drawn.number)
 
 -- ---- a change in a buffer
 
--- every change asks first whether its slot is there
-slot_first : (c : Change) (slot : ℕ) (v : View) → (rest : List Row) × (refusals (call_of slot c) v ≡ no_slot (count_of v) slot ∷ rest)
-slot_first (Change.Put step reading) slot v = (_, refl)
-slot_first (Change.Flip position) slot v = (_, refl)
-slot_first (Change.Mark position) slot v = (_, refl)
-slot_first (Change.Load seed count) slot v = (_, refl)
-slot_first Change.Clear slot v = (_, refl)
+-- a call that is a change of a slot: it asks first whether the slot is there
+pub record ChangesSlot (call : Call) (slot : ℕ) (change : Projection → Content → Change) : Type 0 where
+  pub rows : (v : View) → refusals call v ≡ no_slot (count_of v) slot ∷ (change v.code (content_of v slot)).rows
+  pub gives : (v : View) → gives call v ≡ accepted (change v.code (content_of v slot)).given
+  pub leaves : (b : List ℕ) → leaves call b ≡ stored slot (change (projection_in b) (content_of (view_in b) slot)).new b
 
--- what is answered to any change: a refusal's number, or values that leave the new state
-answer_refused : (c : Change) (r : Refusal) → answer_of c (LoadAnswer.Refused r) ≡ refused (refusal_number r)
-answer_refused (Change.Put step reading) r = refl
-answer_refused (Change.Flip position) r = refl
-answer_refused (Change.Mark position) r = refl
-answer_refused (Change.Load seed count) r = refl
-answer_refused Change.Clear r = refl
+pub put_changes : (slot step reading : ℕ) → ChangesSlot (put slot step reading) slot (λ π c. put_change π step reading)
+put_changes slot step reading = record { rows = λ v. refl; gives = λ v. refl; leaves = λ b. refl }
 
-answer_accepted : (c : Change) (number : ℕ) (new old : List ℕ)
-    → outcome (answer_of c (LoadAnswer.Loaded number)) new old ≡ after (answer_of c (LoadAnswer.Loaded number)) new
-answer_accepted (Change.Put step reading) number new old = refl
-answer_accepted (Change.Flip position) number new old = refl
-answer_accepted (Change.Mark position) number new old = refl
-answer_accepted (Change.Load seed count) number new old = refl
-answer_accepted Change.Clear number new old = refl
+pub flip_changes : (slot position : ℕ) → ChangesSlot (flip slot position) slot (λ π c. flip_change π c position)
+flip_changes slot position = record { rows = λ v. refl; gives = λ v. refl; leaves = λ b. refl }
 
--- and without a number, where none is handed back
-pub unnumbered : (b b' : List ℕ) (slot : ℕ) (c : Change) (a : LoadAnswer) → after (answer_of c a) b' ≡ on_bytes (call_of slot c) b
-    → Unnumbered c (after (done_answer (done_of a)) b' ≡ on_bytes (call_of slot c) b)
-unnumbered b b' slot (Change.Put step reading) a e = e
-unnumbered b b' slot (Change.Flip position) a e = e
-unnumbered b b' slot (Change.Mark position) a e = e
-unnumbered b b' slot (Change.Load seed count) a e = tt
-unnumbered b b' slot Change.Clear a e = e
+pub mark_changes : (slot position : ℕ) → ChangesSlot (mark slot position) slot (λ π c. mark_change π c position)
+mark_changes slot position = record { rows = λ v. refl; gives = λ v. refl; leaves = λ b. refl }
 
-module _ (b : List ℕ) (slot : ℕ) (c : Change) where
-  refused_by : (r : Refusal) → Refuses (refusals_in (call_of slot c) b) (refusal_number r)
-      → after (answer_of c (LoadAnswer.Refused r)) b ≡ on_bytes (call_of slot c) b
+pub load_changes : (slot seed k : ℕ) → ChangesSlot (load slot seed k) slot (λ π c. load_change π c seed k)
+load_changes slot seed k = record { rows = λ v. refl; gives = λ v. refl; leaves = λ b. refl }
+
+pub clear_changes : (slot : ℕ) → ChangesSlot (clear slot) slot (λ π c. clear_change)
+clear_changes slot = record { rows = λ v. refl; gives = λ v. refl; leaves = λ b. refl }
+
+-- a refused call leaves all as it is
+module _ (call : Call) (b : List ℕ) (k : ℕ) where
+  pub refused_by : Refuses (refusals_in call b) k → after (refused k) b ≡ on_bytes call b
   unfolding on_bytes
-  refused_by r e = rw (answer_refused c r, unless_refuses (refusals_in (call_of slot c) b) (gives (call_of slot c) (view_in b)) _ e)
+  refused_by e = rw (unless_refuses (refusals_in call b) (gives call (view_in b)) _ e)
 
-  pub change_not_found : (r : Refusal) → Refuses (slot_rows_in b slot) (refusal_number r)
-      → after (answer_of c (LoadAnswer.Refused r)) b ≡ on_bytes (call_of slot c) b
-  change_not_found r e =
-      let first = slot_first c slot (view_in b) in
-      refused_by r (rw first.1 (refuses_front (slot_rows_in b slot) first.0 _ e))
+module _ {T : Type 0} (answer : Result T Refusal → Answer (List ℕ)) (number : (r : Refusal) → answer (Err r) ≡ refused (refusal_number r))
+    (call : Call) (slot : ℕ) (change : Projection → Content → Change) (is : ChangesSlot call slot change)
+    (step : Step T) (steps : (held : Held) (y : Result (Content × T) Refusal) → step held y → Changing answer (change (projection held.code) held.content) y)
+    (b : List ℕ) where
+  own_rows : (f : Found) → FoundAt b slot f
+      → refusals call (view_in b) ≡ no_slot (count_of (view_in b)) slot ∷ (change (projection f.code) (content_at (projection f.code) b f.place)).rows
+  own_rows f at = is.rows (view_in b) ∙ rw (at.content, at.code, view_code b)
 
-  module _ (p : Place) (code : Code) (f : FoundAt b slot p code) where
-    slot_in : SlotIn (view_in b) slot (projection code) (content_at (projection code) b p)
-    slot_in = record { there = f.there; code = view_code b ∙ sym f.code; content = sym f.content }
+  changed_to : (b' : List ℕ) (t : T) → StoredBy step slot b b' t → after (answer (Ok t)) b' ≡ on_bytes call b
+  unfolding on_bytes stored
+  changed_to b' t s =
+      let f = s.found in
+      let given = steps _ _ s.stepped in
+      let own : Passes (refusals call (view_in b)) = rw (own_rows s.at f, lt-leb _ _ f.there) given.0 in
+      let passes = passes_append (trailer_rows b) (refusals call (view_in b)) f.opened own in
+      rw (unless_passes (refusals_in call b) (gives call (view_in b)) passes, is.gives (view_in b), is.leaves b, given.2, s.stored, given.1, f.content, f.code, view_code b, f.place)
 
-    pub change_refused : (r : Refusal)
-        → ((v : View) (slot : ℕ) → SlotIn v slot (projection code) (content_at (projection code) b p) → Refuses (refusals (call_of slot c) v) (refusal_number r))
-        → after (answer_of c (LoadAnswer.Refused r)) b ≡ on_bytes (call_of slot c) b
-    change_refused r e = refused_by r (refuses_behind (trailer_rows b) (refusals (call_of slot c) (view_in b)) _ f.opened (e (view_in b) slot slot_in))
+  not_changed : (r : Refusal) → RefusedBy step slot b r → Refuses (refusals_in call b) (refusal_number r)
+  not_changed r s =
+      let f = s.found in
+      let own : Refuses (refusals call (view_in b)) (refusal_number r) = rw (own_rows s.at f, lt-leb _ _ f.there) (steps _ _ s.stepped) in
+      refuses_behind (trailer_rows b) (refusals call (view_in b)) _ f.opened own
 
-    pub change_accepted : (new : Content) (number : ℕ) → ChangedTo (projection code) (content_at (projection code) b p) c new number
-        → after (answer_of c (LoadAnswer.Loaded number)) (store_at b p (content_bytes new)) ≡ on_bytes (call_of slot c) b
-    unfolding on_bytes stored
-    change_accepted new number t =
-        let passes = passes_append (trailer_rows b) (refusals (call_of slot c) (view_in b)) f.opened (t.passes (view_in b) slot slot_in) in
-        let given = unless_passes (refusals_in (call_of slot c) b) (gives (call_of slot c) (view_in b)) passes ∙ t.gives (view_in b) slot in
-        rw (given, answer_accepted c number, t.leaves b slot (sym f.code) (sym f.content), f.place)
+  not_found : (r : Refusal) → Refuses (slot_rows_in b slot) (refusal_number r) → Refuses (refusals_in call b) (refusal_number r)
+  not_found r e = rw (is.rows (view_in b)) (refuses_front (slot_rows_in b slot) (change (view_in b).code (content_of (view_in b) slot)).rows _ e)
+
+  pub changed_by : (b' : List ℕ) (r : Result T Refusal) → ChangedBy step slot b b' r → after (answer r) b' ≡ on_bytes call b
+  changed_by b' (Ok t) s = changed_to b' t s
+  changed_by b' (Err r) s = rw (s.0, number r) (refused_by call b _ (⊎_elim (not_found r) (not_changed r) s.1))
 
 -- ---- a put into a slot of an opened buffer
 
@@ -161,27 +117,16 @@ module _ (b : List ℕ) (h : Header) (o : OpenedAs b h) (slot step reading : ℕ
   abbrev code_same : projection_in b ≡ projection h.code
   code_same = rw o.code
 
-  opened_slot : SlotIn (view_in b) slot (projection h.code) (content_of (view_in b) slot)
-  opened_slot = record { there = rw (view_count b) within; code = view_code b ∙ code_same; content = refl }
-
-  pub put_not_refused : (r : Refusal) → ((old : Content) → Changing (projection h.code) old (Change.Put step reading) (Changed.Refused r)) → ⊥
-  put_not_refused r e =
-      let old = content_of (view_in b) slot in
-      let passes = (put_changed (projection h.code) old step reading hs hr _ refl).passes (view_in b) slot opened_slot in
-      let never = sym passes ∙ e old (view_in b) slot opened_slot in
-      let z : ◌≡◌ {A = ℕ} 0 1 = cc in
-      omega arith
-
-  module _ (p : Place) (place : p ≡ place_from h.start slot) (new : Content) (number : ℕ)
-      (e : (old : Content) → Changing (projection h.code) old (Change.Put step reading) (Changed.To new number)) where
-    at_place : store_at b p (content_bytes new) ≡ stored slot new b
+  module _ (f : Found) (at : f ≡ record { place = place_from h.start slot; code = h.code }) (new : Content) (t : Unit {0})
+      (e : Changing done_answer (put_change (projection h.code) step reading) (Ok (new, t))) where
+    at_place : store_at b f.place (content_bytes new) ≡ stored slot new b
     unfolding stored
-    at_place = rw (place, o.start)
+    at_place = rw (at, o.start)
 
-    pub put_stored : store_at b p (content_bytes new) ≡ put_in slot step reading b
-    put_stored = at_place ∙ sym ((e (content_of (view_in b) slot)).leaves b slot code_same refl)
+    pub put_stored : store_at b f.place (content_bytes new) ≡ put_in slot step reading b
+    put_stored = at_place ∙ rw (e.1, code_same)
 
-    pub put_opened : OpenedAs (store_at b p (content_bytes new)) h
+    pub put_opened : OpenedAs (store_at b f.place (content_bytes new)) h
     put_opened = rw at_place (same_opened b (stored slot new b) (stored_trailer b o.passes slot within new) h o)
 
 -- ---- a list of puts in a buffer
@@ -190,19 +135,15 @@ module _ (b : List ℕ) (start : ℕ) (steps readings : List ℕ) where
   abbrev call : Call
   call = put_list start steps readings
 
-  list_refused_by : (r : Refusal) → Refuses (refusals_in call b) (refusal_number r) → after (done_answer (Done.Refused r)) b ≡ on_bytes call b
-  unfolding on_bytes
-  list_refused_by r e = rw (unless_refuses {A = List ℕ} (refusals_in call b) (accepted []) _ e)
-
-  pub list_not_opened : (r : Refusal) → Refuses (trailer_rows b) (refusal_number r) → after (done_answer (Done.Refused r)) b ≡ on_bytes call b
-  list_not_opened r e = list_refused_by r (refuses_front (trailer_rows b) (refusals call (view_in b)) _ e)
+  pub list_not_opened : (r : Refusal) → Refuses (trailer_rows b) (refusal_number r) → after (done_answer (Err r)) b ≡ on_bytes call b
+  list_not_opened r e = refused_by call b _ (refuses_front (trailer_rows b) (refusals call (view_in b)) _ e)
 
   module _ (h : Header) (o : OpenedAs b h) where
     pub list_refused : (r : Refusal) → Refuses (list_rows_of h start steps readings) (refusal_number r)
-        → after (done_answer (Done.Refused r)) b ≡ on_bytes call b
+        → after (done_answer (Err r)) b ≡ on_bytes call b
     list_refused r e =
         let own : Refuses (refusals call (view_in b)) (refusal_number r) = rw (view_count b, view_code b, ← o.slots, ← o.code) e in
-        list_refused_by r (refuses_behind (trailer_rows b) (refusals call (view_in b)) _ o.passes own)
+        refused_by call b _ (refuses_behind (trailer_rows b) (refusals call (view_in b)) _ o.passes own)
 
     pub list_accepted : Passes (list_rows_of h start steps readings) → after (accepted []) (put_all put_in start steps readings b) ≡ on_bytes call b
     unfolding on_bytes

@@ -11,7 +11,7 @@ mod Distinct
 mod Slots
 mod Trailers
 mod LayoutExamples
--- A fault load: the positions that it draws, and the word that the code picks them in. A list of puts: limits, rows, one put after the other.
+-- A fault load: the positions that it draws, and the word that the code picks them in. A list of puts: limits and rows.
 mod LoadLaws
 mod PickLaws
 mod PutLists

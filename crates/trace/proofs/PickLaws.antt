@@ -6,7 +6,6 @@ use native.Mathlib.Nat.{zero-div}
 use lib.Bits.{bit_xor, xor_zero_r, xor_self}
 use borrow.Author.Tests.{eqb-false}
 use Rattle.codes.specs.Claims.{Among}
-use Rattle.trace.specs.declared.loads.Load.{Load}
 use Rattle.trace.specs.Lists.{span, without, in_turn}
 use Rattle.trace.specs.Load.{advance, rank_of, drawn, handed_back}
 use Rattle.trace.specs.ContractsOfLoad.{bit_in, toggle, is_unpicked, unpicked_of, unpicked_in, unpicked_at, with_rank, LoadOf}
@@ -94,7 +93,7 @@ module _ (w : ℕ) where
       at_below = all_below _ at_unpicked.0
 
       picked_without : unpicked_in w (with_rank w picked rank) ≡ without (unpicked_at w picked rank) (unpicked_in w picked)
-      unfolding unpicked_in with_rank
+      unfolding unpicked_in
       picked_without = one_less (unpicked_at w picked rank) at_below at_unpicked.1 (span 0 w) all_below
 
       picked_length : suc (length (unpicked_in w (with_rank w picked rank))) ≡ length (unpicked_in w picked)
@@ -132,9 +131,6 @@ module _ (w : ℕ) where
         left_first : left_from picked position ≡ position ∷ left_from picked (position + 1)
         left_first = left_step ∙ rw (eq-eqb (picked / bit_in w position % 2) 0 free)
 
-        pub seek_found : before ≡ 0 → position ≡ unpicked_at w picked rank
-        seek_found e = rw (left_first, e) at s.same
-
         pub seek_nearer : 0 < before → Seeking picked rank (position + 1) (before - 1)
         seek_nearer h =
             let one : before ≡ suc (before - 1) = omega arith in
@@ -149,48 +145,45 @@ module _ (w : ℕ) where
   -- ---- all draws
 
   -- a load after some of its draws: so many positions are unpicked, and what is left leads where all draws lead
-  pub record Drawing (seed count done : ℕ) (load : Load) : Type 0 where
+  pub record Drawing (seed count done number picked : ℕ) : Type 0 where
     pub few : done ≤ count
-    pub unpicked : length (unpicked_in w load.picked) ≡ w - done
-    pub number : handed_back (count - done) load.generator.number ≡ handed_back count seed
-    pub picked : in_turn (toggle w) (drawn (count - done) load.generator.number (unpicked_in w load.picked)) load.picked
-        ≡ in_turn (toggle w) (drawn count seed (span 0 w)) 0
+    pub unpicked : length (unpicked_in w picked) ≡ w - done
+    pub handed : handed_back (count - done) number ≡ handed_back count seed
+    pub flipped : in_turn (toggle w) (drawn (count - done) number (unpicked_in w picked)) picked ≡ in_turn (toggle w) (drawn count seed (span 0 w)) 0
 
   module _ (seed count : ℕ) (fits : count ≤ w) where
-    pub none_drawn : (load : Load) → load.generator.number ≡ seed → load.picked ≡ 0 → Drawing seed count 0 load
+    pub none_drawn : Drawing seed count 0 seed 0
     unfolding unpicked_in
-    none_drawn load number picked =
+    none_drawn =
         let whole : count - 0 ≡ count = omega arith in
         let all : w - 0 ≡ w = omega arith in
         record {
           few = omega arith;
-          unpicked = rw (picked, none_picked (span 0 w), all) (span_length 0 w);
-          number = rw (whole, number);
-          picked = rw (whole, number, picked, none_picked (span 0 w));
+          unpicked = rw (none_picked (span 0 w), all) (span_length 0 w);
+          handed = rw whole;
+          flipped = rw (whole, none_picked (span 0 w));
         }
 
-    pub one_drawn : (done : ℕ) (load next : Load) → Drawing seed count done load → done < count
-        → next.generator.number ≡ advance load.generator.number
-        → next.picked ≡ with_rank w load.picked (rank_of load.generator.number (w - done))
-        → Drawing seed count (done + 1) next
-    unfolding drawn handed_back with_rank
-    one_drawn done load next d more number picked =
-        let rank = rank_of load.generator.number (w - done) in
+    pub one_drawn : (done number picked : ℕ) → Drawing seed count done number picked → done < count
+        → Drawing seed count (done + 1) (advance number) (with_rank w picked (rank_of number (w - done)))
+    unfolding drawn handed_back
+    one_drawn done number picked d more =
+        let rank = rank_of number (w - done) in
         let left : count - done ≡ suc (count - (done + 1)) = omega arith in
         let some : 0 < w - done = omega arith in
-        let there : rank < length (unpicked_in w load.picked) = rw d.unpicked (mod-lt _ some) in
+        let there : rank < length (unpicked_in w picked) = rw d.unpicked (mod-lt _ some) in
         record {
           few = omega arith;
-          unpicked = rw picked (omega (arith, picked_length load.picked rank there, d.unpicked));
-          number = rw number (rw left at d.number);
-          picked = rw (number, picked, picked_without load.picked rank there, ← d.unpicked) (rw left at d.picked);
+          unpicked = omega (arith, picked_length picked rank there, d.unpicked);
+          handed = rw left at d.handed;
+          flipped = rw (picked_without picked rank there, ← d.unpicked) (rw left at d.flipped);
         }
 
-    pub all_drawn : (load : Load) → Drawing seed count count load → LoadOf w seed count load
+    pub all_drawn : (number picked : ℕ) → Drawing seed count count number picked → LoadOf w seed count number picked
     unfolding drawn handed_back
-    all_drawn load d =
+    all_drawn number picked d =
         let none : count - count ≡ 0 = omega arith in
-        record { number = rw none at d.number; picked = rw none at d.picked }
+        record { number = rw none at d.handed; picked = rw none at d.flipped }
 
 -- ---- flips in turn
 

@@ -1,15 +1,13 @@
--- What a trace takes from the word calls: a fit step and reading are a fit message, which is encoded; a fit word under fit marks is corrected.
--- The step limit times 4096 is the message limit, and word calls whose numbers fit meet none of their other refusals.
-use Rattle.std.proofs.Common.{◌≡◌, ℕ, ◌+◌, ◌*◌, ◌^◌, ◌<◌, ◌≤◌, [], ◌∷◌, sym, ◌∙◌, arith, pow_mono}
+-- What a trace takes from the word calls: a fit step and reading are a fit message, as the step limit times 4096 is the message limit; a fit word
+-- under fit marks is corrected, since word calls whose numbers fit meet none of their other refusals.
+use Rattle.std.proofs.Common.{◌≡◌, ℕ, ◌+◌, ◌*◌, ◌^◌, ◌<◌, ◌∙◌, arith}
 use Rattle.codes.specs.declared.code.Code.{Code}
 use Rattle.codes.specs.declared.answer.Correction.{Correction}
 use Rattle.codes.specs.Answer.{accepted, refused}
 use Rattle.codes.specs.Projection.{Projection, width, message_bits}
-use Rattle.codes.specs.Message.{encode}
 use Rattle.codes.specs.Correction.{correct}
-use Rattle.codes.specs.Codes.{projection, step_limit, correction_values, encoding, correcting}
-use Rattle.codes.proofs.Rows.{not_refused}
-use Rattle.codes.proofs.Laws.{bits_le, steps, encoding_fits, correcting_fits, answer_near, answer_none}
+use Rattle.codes.specs.Codes.{projection, step_limit, correction_values, correcting}
+use Rattle.codes.proofs.Laws.{steps, correcting_fits, answer_near, answer_none}
 use Rattle.trace.specs.View.{message_of, reading_of, read_corrected}
 
 -- a fit step and reading make a fit message
@@ -18,17 +16,6 @@ message_lt c step reading hs hr = sum _ _ (steps c) hs
   where
     sum : (limit messages : ℕ) → limit * 4096 ≡ messages → step < limit → step * 4096 + reading < messages
     sum limit messages e h = omega arith
-
-pub messages_small : (c : Code) → 2 ^ message_bits (projection c) ≤ 4194304
-messages_small c = pow_mono (bits_le c)
-
--- a fit message is encoded
-module _ (π : Projection) (m : ℕ) (fits : m < 2 ^ message_bits π) where
-  pub encoded_word : (w : ℕ) → accepted (w ∷ []) ≡ encoding π m → w ≡ encode π m
-  encoded_word w e = let same = e ∙ encoding_fits π m fits in cc
-
-  pub never_refused : (k : ℕ) → refused k ≡ encoding π m → ⊥
-  never_refused k e = not_refused _ k (sym (e ∙ encoding_fits π m fits))
 
 -- a read of a fit word under fit marks gives what mending gives, its message split
 module _ (π : Projection) (w m : ℕ) (word_fits : w < 2 ^ width π) (marks_fit : m < 2 ^ width π) where

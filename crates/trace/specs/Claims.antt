@@ -1,6 +1,6 @@
 -- What is claimed of a trace, in the words of the demands, of the scope and of the requests, which docs/CLAIMS.md has in full. Each claim is a
 -- theorem of the same name, in lower case, in proofs/.
-use Rattle.std.specs.Prelude.{◌≡◌, ℕ, zero, suc, ◌+◌, ◌-◌, ◌*◌, ◌^◌, ◌<◌, ◌≤◌, true, ◌⊎◌, ◌↔◌, List, [], ◌∷◌, ◌++◌, map, length, replicate, ◌≢◌, bit_xor, slice_index}
+use Rattle.std.specs.Prelude.{◌≡◌, ℕ, zero, suc, ◌+◌, ◌-◌, ◌*◌, ◌^◌, ◌<◌, ◌≤◌, true, ◌⊎◌, ◌↔◌, List, [], ◌∷◌, ◌++◌, map, length, replicate, ◌≢◌, bit_xor, slice_index, Option, None, Some}
 use Rattle.codes.specs.Answer.{Answer, accepted, refused, map_answer, Row, Passes, Refuses}
 use Rattle.codes.specs.Projection.{Projection, width}
 use Rattle.codes.specs.Word.{word, bit_at}
@@ -439,11 +439,11 @@ Means Status.Lost a = a ≡ refused 5
 Means Status.Bad a = a ≡ refused 10
 
 -- smallest, largest and mean of pressures: two of them that bound all, and 'mean (rounded down)'
-abbrev pub Extremes : List ℕ → Pressures → Type 0
-Extremes rs Pressures.Absent = rs ≡ []
-Extremes rs (Pressures.Present smallest largest mean) =
-    (Among smallest rs × Among largest rs)
-    × (((r : ℕ) → Among r rs → (smallest ≤ r) × (r ≤ largest)) × ((mean * length rs ≤ total rs) × (total rs < (mean + 1) * length rs)))
+abbrev pub Extremes : List ℕ → Option Pressures → Type 0
+Extremes rs None = rs ≡ []
+Extremes rs (Some p) =
+    (Among p.smallest rs × Among p.largest rs)
+    × (((r : ℕ) → Among r rs → (p.smallest ≤ r) × (r ≤ p.largest)) × ((p.mean * length rs ≤ total rs) × (total rs < (p.mean + 1) * length rs)))
 
 -- 'A survey never takes 4095 for a pressure', nor 0, whatever the buffer holds
 pub record Honest (b vs : List ℕ) : Type 0 where

@@ -1,7 +1,6 @@
 -- What the parts of a fault load promise each other. No claim rests on this file but by the proofs. A word of some width stands for the positions
 -- that are picked: they are its ones.
 use Rattle.std.specs.Prelude.{◌≡◌, ℕ, ◌-◌, ◌/◌, ◌%◌, ◌^◌, Bool, cond, List, [], ◌∷◌, ◌==◌, bit_xor, slice_index}
-use Rattle.trace.specs.declared.loads.Load.{Load}
 use Rattle.trace.specs.Lists.{span, in_turn}
 use Rattle.trace.specs.Load.{drawn, handed_back}
 
@@ -29,10 +28,10 @@ unpicked_in width picked = unpicked_of width picked (span 0 width)
 abbrev pub unpicked_at : ℕ → ℕ → ℕ → ℕ
 unpicked_at width picked rank = slice_index (unpicked_in width picked) rank
 
-unfoldable pub with_rank : ℕ → ℕ → ℕ → ℕ
+abbrev pub with_rank : ℕ → ℕ → ℕ → ℕ
 with_rank width picked rank = toggle width (unpicked_at width picked rank) picked
 
--- a load of so many draws from a seed
-pub record LoadOf (width seed count : ℕ) (load : Load) : Type 0 where
-  pub number : load.generator.number ≡ handed_back count seed
-  pub picked : load.picked ≡ in_turn (toggle width) (drawn count seed (span 0 width)) 0
+-- a load of so many draws from a seed has come to a number and a word
+pub record LoadOf (width seed count last word : ℕ) : Type 0 where
+  pub number : last ≡ handed_back count seed
+  pub picked : word ≡ in_turn (toggle width) (drawn count seed (span 0 width)) 0

@@ -27,3 +27,4 @@ pub mod Claims
 -- ---- what private steps promise each other: no claim rests on it but by the proofs
 pub mod ContractsOfSteps
 pub mod ContractsOfLoad
+pub mod ContractsOfTally

@@ -1,5 +1,6 @@
 -- Small functions on lists.
-use Rattle.std.specs.Prelude.{ℕ, zero, suc, Bool, false, cond, ◌||◌, List, [], ◌∷◌, ◌==◌, nat_le}
+use Rattle.std.specs.Prelude.{ℕ, zero, suc, Bool, cond, List, [], ◌∷◌, ◌==◌, nat_le}
+use Rattle.std.specs.List.{list_any}
 
 -- n numbers, from a first one up
 abbrev pub span : ℕ → ℕ → List ℕ
@@ -13,8 +14,7 @@ without x (y ∷ ys) = cond (x == y) (without x ys) (y ∷ without x ys)
 
 -- whether some number of a list is at a limit or above it
 abbrev pub reaches : ℕ → List ℕ → Bool
-reaches limit [] = false
-reaches limit (x ∷ xs) = nat_le limit x || reaches limit xs
+reaches limit = list_any (λ x. nat_le limit x)
 
 -- a change for each number of a list, in turn
 abbrev pub in_turn : {A : Type 0} → (ℕ → A → A) → List ℕ → A → A

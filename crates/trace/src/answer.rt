@@ -1,10 +1,10 @@
 // What the trace calls answer.
-ghost use Rattle.std.specs.Prelude.{◌≡◌, ◌≤◌, length};
-ghost use Rattle.trace.specs.Answers.{refusal_number, reading_values, counts_values, pressures_values, pressures_in_three, survey_padded};
-ghost use Rattle.trace.specs.ContractsOfSteps.{done_of};
+ghost use Rattle.std.specs.Prelude.{◌≡◌};
+ghost use Rattle.trace.specs.Answers.{refusal_number, reading_values, counts_values, three_values, counts_and_sum};
+ghost use Rattle.trace.specs.declared.answer.Refusal.TheVariants.{Word};
 
 // Why a call is refused: as a word call is, or for a reason of the trace's own.
-#[derive(Clone, Copy)]
+#[derive(Clone, Copy, Debug, PartialEq, Eq)]
 pub enum Refusal {
     Word(codes::Refusal),
     WrongCount,
@@ -42,29 +42,11 @@ impl Refusal {
     }
 }
 
-// Of making, put, list of puts, flip, mark and clear.
-#[derive(Clone, Copy)]
-pub enum Done {
-    Accepted,
-    Refused(Refusal),
-}
+impl From<codes::Refusal> for Refusal {
+    ghost from_gives = { λ r e. e ≡ Word r };
 
-// Of load: the number handed back.
-#[derive(Clone, Copy)]
-pub enum LoadAnswer {
-    Loaded(u32),
-    Refused(Refusal),
-}
-
-impl LoadAnswer {
-    // Without the number.
-    pub(crate) fn done(self) -> Done
-        ensures { result ≡ done_of self }
-    {
-        match self {
-            LoadAnswer::Loaded(_) => Done::Accepted,
-            LoadAnswer::Refused(r) => Done::Refused(r),
-        }
+    fn from(r: codes::Refusal) -> Self {
+        Self::Word(r)
     }
 }
 
@@ -86,15 +68,8 @@ impl Reading {
     }
 }
 
-// Of read.
-#[derive(Clone, Copy)]
-pub enum ReadAnswer {
-    Corrected(Reading),
-    Refused(Refusal),
-}
-
 // How many slots have each status.
-#[derive(Clone, Copy)]
+#[derive(Clone, Copy, Default)]
 pub struct Counts {
     pub blank: u64,
     pub read: u64,
@@ -115,71 +90,38 @@ impl Counts {
     }
 }
 
-// Smallest, largest and mean of the readings 1 to 4094; absent where there are none.
+// Smallest, largest and mean of some readings 1 to 4094.
 #[derive(Clone, Copy)]
-pub enum Pressures {
-    Absent,
-    Present(u64, u64, u64),
+pub struct Pressures {
+    pub smallest: u64,
+    pub largest: u64,
+    pub mean: u64,
 }
 
 impl Pressures {
-    // How many values they are: none or three.
-    fn count(self) -> usize
-        ensures { (result ≡ length (pressures_values self)) × (result ≤ 3) }
+    // Smallest, largest, mean.
+    pub fn values(self) -> [u64; 3]
+        ensures { result ≡ three_values self }
     {
-        match self {
-            Pressures::Absent => 0,
-            Pressures::Present(_, _, _) => 3,
-        }
-    }
-
-    // The three values, zeros where they are absent.
-    fn in_three(self) -> [u64; 3]
-        ensures { result ≡ pressures_in_three self }
-    {
-        match self {
-            Pressures::Absent => [0, 0, 0],
-            Pressures::Present(smallest, largest, mean) => [smallest, largest, mean],
-        }
+        [self.smallest, self.largest, self.mean]
     }
 }
 
-// The number of slots and their counts; the sum of the readings 1 to 4094, and more of them.
+// The number of slots and their counts; the sum of the readings 1 to 4094, and more of them where there are any.
 #[derive(Clone, Copy)]
 pub struct Survey {
     pub slots: u64,
     pub counts: Counts,
     pub sum: u64,
-    pub pressures: Pressures,
-}
-
-// A survey's values: how many there are, and as many; 0 past the last.
-#[derive(Clone, Copy)]
-pub struct SurveyValues {
-    pub count: usize,
-    pub values: [u64; 10],
+    pub pressures: Option<Pressures>,
 }
 
 impl Survey {
-    // The counts and the sum, then smallest, largest and mean where they are present.
-    pub fn values(self) -> SurveyValues
-        ensures { result ≡ survey_padded self }
+    // The counts, then the sum.
+    pub fn values(self) -> [u64; 7]
+        ensures { result ≡ counts_and_sum self }
     {
-        let counts = self.counts;
-        let c = counts.values();
-        let pressures = self.pressures;
-        let p = pressures.in_three();
-        let sum = self.sum;
-        SurveyValues {
-            count: 7 + pressures.count(),
-            values: [c[0], c[1], c[2], c[3], c[4], c[5], sum, p[0], p[1], p[2]],
-        }
+        let [blank, read, over, under, lost, bad] = self.counts.values();
+        [blank, read, over, under, lost, bad, self.sum]
     }
-}
-
-// Of survey.
-#[derive(Clone, Copy)]
-pub enum SurveyAnswer {
-    Surveyed(Survey),
-    Refused(Refusal),
 }

@@ -2,23 +2,14 @@
 ghost use Rattle.std.specs.Prelude.{◌≡◌, ◌+◌, ◌^◌, ◌<◌, ◌≤◌, length};
 ghost use Rattle.trace.specs.Layout.{bytes_of, number_from, number_at, overwrite};
 
-// A byte as a number.
-fn wide(x: u8) -> u64
-    ensures { (result ≡ x) × (result < 256) }
-{
-    x as u64
-}
-
 // The number in a part's bytes.
 fn number(part: &[u8]) -> u64
     requires { length part.now ≤ 5 }
     ensures { (result ≡ number_from 0 part.now) × (result < 256 ^ length part.now) }
 {
     let mut value: u64 = 0;
-    let mut i = 0;
-    while i < part.len() {
-        value = value * 256 + wide(part[i]);
-        i += 1;
+    for byte in part {
+        value = value * 256 + u64::from(*byte);
     }
     value
 }
@@ -37,11 +28,9 @@ fn fill(part: &mut [u8], value: u64)
     ensures { part.new ≡ bytes_of (length part.old) value }
 {
     let mut left = value;
-    let mut i = part.len();
-    while 0 < i {
-        i -= 1;
+    for i in (0..part.len()).rev() {
         part[i] = (left % 256) as u8;
-        left = left / 256;
+        left /= 256;
     }
 }
 

@@ -1,12 +1,13 @@
 // Free bytes, slots, trailer: where a trace's parts lie in its buffer.
-ghost use Rattle.std.specs.Prelude.{◌≡◌, ◌+◌, ◌^◌, ◌<◌, ◌≤◌, length};
-ghost use Rattle.trace.specs.Layout.{trailer_size, distance_of, needed_for, place_from, overwrite, trailer, made};
+ghost use Rattle.std.specs.Prelude.{◌≡◌, ◌+◌, ◌^◌, ◌<◌, ◌≤◌, true, false, length, MatchResult};
+ghost use Rattle.trace.specs.declared.answer.Refusal.TheVariants.{WrongCount};
 ghost use Rattle.trace.specs.Refusals.{is_count};
+ghost use Rattle.trace.specs.Layout.{trailer_size, distance_of, needed_for, place_from, overwrite, trailer, made};
 ghost use Rattle.trace.specs.ContractsOfSteps.{Fitting, Opening, Finding};
 
 use crate::answer::Refusal;
 use crate::bytes::{number_at, store};
-use codes::{Code, CodeFound};
+use codes::Code;
 
 // The bytes of a slot's state, and of its word or marks.
 pub(crate) const STATE: usize = 1;
@@ -33,7 +34,8 @@ pub(crate) struct Place {
     pub marks: usize,
 }
 
-// What a fit trailer says: where slot 0 lies, the number of slots, and the code.
+// What a fit trailer says: where slot 0 lies, the number of slots, and the code. It stands beside its buffer: a struct of both would be no plainer,
+// since it is needed twice, for a buffer that is read and for one that is changed.
 #[derive(Clone, Copy)]
 pub(crate) struct Header {
     pub start: usize,
@@ -41,91 +43,99 @@ pub(crate) struct Header {
     pub code: Code,
 }
 
-// A buffer whose trailer is fit, or why it is refused.
+// A slot's place and code, beside its buffer as a header is.
 #[derive(Clone, Copy)]
-pub(crate) enum Opened {
-    Fit(Header),
-    Refused(Refusal),
+pub(crate) struct Found {
+    pub place: Place,
+    pub code: Code,
 }
 
-// A slot's place and code.
+// How many slots a trace has.
 #[derive(Clone, Copy)]
-pub(crate) enum Found {
-    At(Place, Code),
-    Refused(Refusal),
+pub(crate) struct SlotCount {
+    pub number: usize,
+    ghost few: { number ≤ 4000 },
 }
 
-// Whether a trace can have this many slots.
-pub(crate) fn is_count(slots: u64) -> bool
-    ensures { result ≡ is_count slots }
-{
-    1 <= slots && slots <= MOST_SLOTS
+impl TryFrom<u64> for SlotCount {
+    type Error = Refusal;
+
+    ghost try_from_gives = { λ n r. MatchResult r (λ s. (is_count n ≡ true) × (s.number ≡ n)) (λ e. (is_count n ≡ false) × (e ≡ WrongCount)) };
+
+    fn try_from(number: u64) -> Result<Self, Refusal> {
+        if (1..=MOST_SLOTS).contains(&number) {
+            return Ok(SlotCount {
+                number: number as usize,
+            });
+        }
+        Err(Refusal::WrongCount)
+    }
 }
 
-// The bytes of so many slots.
-fn distance(slots: usize) -> usize
-    requires { slots ≤ 4000 }
-    ensures { result ≡ distance_of slots }
-{
-    SLOT * slots
+impl SlotCount {
+    // The bytes of the slots.
+    fn distance(self) -> usize
+        ensures { result ≡ distance_of self.number }
+    {
+        SLOT * self.number
+    }
+
+    // The bytes that making needs.
+    pub(crate) fn needed(self) -> usize
+        ensures { result ≡ needed_for self.number }
+    {
+        self.distance() + TRAILER
+    }
 }
 
-// The bytes that making needs for so many slots.
-pub(crate) fn needed(slots: usize) -> usize
-    requires { slots ≤ 4000 }
-    ensures { result ≡ needed_for slots }
-{
-    distance(slots) + TRAILER
-}
-
-// The place of a slot.
-pub(crate) fn place_of(h: Header, slot: usize) -> Place
-    requires { (slot < h.slots) × (h.start + distance_of h.slots < 2 ^ 64) }
-    ensures { result ≡ place_from h.start slot }
-{
-    let state = h.start + SLOT * slot;
-    let word = state + STATE;
-    Place {
-        state: state,
-        word: word,
-        marks: word + WORD,
+impl Header {
+    // A slot's place and code.
+    #[tactic(auto, unfolding(crate::specs::Layout::place_from))]
+    pub(crate) fn slot(self, slot: usize) -> Found
+        requires { (slot < self.slots) × (self.start + distance_of self.slots < 2 ^ 64) }
+        ensures { result ≡ record { place = place_from self.start slot; code = self.code } }
+    {
+        let state = self.start + SLOT * slot;
+        let word = state + STATE;
+        let marks = word + WORD;
+        Found {
+            place: Place { state, word, marks },
+            code: self.code,
+        }
     }
 }
 
 // Refusal 8: whether a trailer's numbers are fit, with so many bytes before it.
-fn fit(before: usize, back: u64, slots: u64, number: u64, edition: u64) -> Opened
+#[tactic(auto, unfolding(crate::specs::Refusals::is_fit))]
+fn fit(before: usize, back: u64, slots: u64, number: u64, edition: u64) -> Result<Header, Refusal>
     ensures { Fitting before back slots number edition result }
 {
     if edition != EDITION {
-        return Opened::Refused(Refusal::TrailerUnfit);
+        return Err(Refusal::TrailerUnfit);
     }
-    let CodeFound::Code(code) = Code::from_number(number) else {
-        return Opened::Refused(Refusal::TrailerUnfit);
+    let Ok(code) = Code::try_from(number) else {
+        return Err(Refusal::TrailerUnfit);
     };
-    if !is_count(slots) {
-        return Opened::Refused(Refusal::TrailerUnfit);
-    }
+    let Ok(slots) = SlotCount::try_from(slots) else {
+        return Err(Refusal::TrailerUnfit);
+    };
     let size = back as usize;
-    let count = slots as usize;
-    if size != distance(count) {
-        return Opened::Refused(Refusal::TrailerUnfit);
+    if size != slots.distance() || before < size {
+        return Err(Refusal::TrailerUnfit);
     }
-    if before < size {
-        return Opened::Refused(Refusal::TrailerUnfit);
-    }
-    Opened::Fit(Header {
+    Ok(Header {
         start: before - size,
-        slots: count,
-        code: code,
+        slots: slots.number,
+        code,
     })
 }
 
 // Refusals 7 and 8: what a buffer's trailer says.
-pub(crate) fn open(b: &[u8]) -> Opened
+pub(crate) fn open(b: &[u8]) -> Result<Header, Refusal>
     ensures { Opening b.now result }
 {
     if b.len() < TRAILER {
-        return Opened::Refused(Refusal::BufferShort);
+        return Err(Refusal::BufferShort);
     }
     let t = b.len() - TRAILER;
     fit(
@@ -138,40 +148,36 @@ pub(crate) fn open(b: &[u8]) -> Opened
 }
 
 // Refusals 7, 8 and 9: where a slot lies.
-pub(crate) fn find(b: &[u8], slot: u64) -> Found
+pub(crate) fn find(b: &[u8], slot: u64) -> Result<Found, Refusal>
     ensures { Finding b.now slot result }
 {
-    match open(b) {
-        Opened::Refused(r) => Found::Refused(r),
-        Opened::Fit(h) => {
-            let slots = h.slots;
-            let code = h.code;
-            let i = slot as usize;
-            if slots <= i {
-                return Found::Refused(Refusal::NoSlot);
-            }
-            Found::At(place_of(h, i), code)
-        }
+    let h = open(b)?;
+    let i = slot as usize;
+    if h.slots <= i {
+        return Err(Refusal::NoSlot);
     }
+    Ok(h.slot(i))
 }
 
 // Writes the trailer.
-fn write_trailer(b: &mut [u8], at: usize, code: u64, slots: u64)
-    requires { (at + trailer_size ≤ length b.old) × (slots ≤ 4000) }
-    ensures { b.new ≡ overwrite b.old at (trailer code slots) }
+#[tactic(auto, using(crate::proofs::Trailers::trailer_written))]
+fn write_trailer(b: &mut [u8], at: usize, code: u64, slots: SlotCount)
+    requires { at + trailer_size ≤ length b.old }
+    ensures { b.new ≡ overwrite b.old at (trailer code slots.number) }
 {
-    store(b, at, 4, distance(slots as usize) as u64);
-    store(b, at + 4, 2, slots);
+    store(b, at, 4, slots.distance() as u64);
+    store(b, at + 4, 2, slots.number as u64);
     store(b, at + 6, 1, code);
     store(b, at + 7, 1, EDITION);
 }
 
 // Writes blank slots and the trailer at the buffer's end.
-pub(crate) fn write_blank(b: &mut [u8], code: u64, slots: u64)
-    requires { (needed_for slots ≤ length b.old) × (slots ≤ 4000) }
-    ensures { b.new ≡ made (record { code = code; slots = slots }) b.old }
+#[tactic(auto, using(crate::proofs::Trailers::made_written))]
+pub(crate) fn write_blank(b: &mut [u8], code: u64, slots: SlotCount)
+    requires { needed_for slots.number ≤ length b.old }
+    ensures { b.new ≡ made (record { code = code; slots = slots.number }) b.old }
 {
-    let size = distance(slots as usize);
+    let size = slots.distance();
     let t = b.len() - TRAILER;
     store(b, t - size, size, 0);
     write_trailer(b, t, code, slots);

@@ -14,10 +14,7 @@ mod status;
 mod surveys;
 mod tally;
 
-pub use answer::{
-    Counts, Done, LoadAnswer, Pressures, ReadAnswer, Reading, Refusal, Survey, SurveyAnswer,
-    SurveyValues,
-};
+pub use answer::{Counts, Pressures, Reading, Refusal, Survey};
 pub use calls::{clear, flip, load, make, mark, put, read, read_alone};
 pub use layout::{SLOT, TRAILER};
 pub use lists::put_list;

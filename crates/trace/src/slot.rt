@@ -3,16 +3,16 @@ ghost use Rattle.std.specs.Prelude.{◌≡◌, ◌-◌, ◌^◌, ◌<◌, ◌≤
 ghost use Rattle.codes.specs.Projection.{width};
 ghost use Rattle.codes.specs.Correction.{correct};
 ghost use Rattle.codes.specs.Codes.{projection};
-ghost use Rattle.trace.specs.Layout.{slot_bytes, content_bytes, store_at};
+ghost use Rattle.trace.specs.Layout.{content_bytes, store_at};
 ghost use Rattle.trace.specs.View.{read_corrected, read_content};
 ghost use Rattle.trace.specs.Trace.{content_with, content_at};
 ghost use Rattle.trace.specs.Answers.{read_answer};
-ghost use Rattle.trace.specs.ContractsOfSteps.{Room, Narrow, RefusedAs};
+ghost use Rattle.trace.specs.ContractsOfSteps.{Room};
 
-use crate::answer::{ReadAnswer, Reading, Refusal};
+use crate::answer::{Reading, Refusal};
 use crate::bytes::{number_at, store};
-use crate::layout::{Place, STATE, WORD};
-use codes::{Code, Corrected};
+use crate::layout::{Found, STATE, WORD};
+use codes::Code;
 
 // The states of a slot; any other than the first two is bad.
 const BLANK: u64 = 0;
@@ -22,7 +22,7 @@ const WRITTEN: u64 = 1;
 const BAD: u64 = 2;
 
 // A message is a step times this plus a reading.
-pub(crate) const READINGS: u64 = 4096;
+pub(crate) const READINGS: u64 = Code::READINGS;
 
 // What a slot holds: nothing, numbers that no call writes, or a word under marks.
 #[derive(Clone, Copy)]
@@ -30,6 +30,13 @@ pub(crate) enum Content {
     Blank,
     Bad,
     Written(u64, u64),
+}
+
+// What a slot holds, under the trace's code.
+#[derive(Clone, Copy)]
+pub(crate) struct Held {
+    pub code: Code,
+    pub content: Content,
 }
 
 // The bit of a position in a word of so many bits: position 0 is the highest.
@@ -41,64 +48,34 @@ pub(crate) fn bit(width: u64, position: u64) -> u64
 }
 
 // What a slot with these numbers holds.
+#[tactic(auto, unfolding(crate::specs::Trace::content_with, crate::specs::Refusals::is_bad))]
 fn classify(code: Code, state: u64, word: u64, marks: u64) -> Content
     ensures { result ≡ content_with (projection code) state word marks }
 {
     let limit = code.word_limit();
-    if WRITTEN < state {
-        return Content::Bad;
-    }
-    if limit <= word {
-        return Content::Bad;
-    }
-    if limit <= marks {
+    if WRITTEN < state || limit <= word || limit <= marks {
         return Content::Bad;
     }
     if state == WRITTEN {
         return Content::Written(word, marks);
     }
-    if word != 0 {
-        return Content::Bad;
-    }
-    if marks != 0 {
+    if word != 0 || marks != 0 {
         return Content::Bad;
     }
     Content::Blank
 }
 
-// What the slot at a place holds.
-pub(crate) fn content_at(b: &[u8], place: Place, code: Code) -> Content
-    requires { Room (length b.now) place }
-    ensures { result ≡ content_at (projection code) b.now place }
-{
-    classify(
-        code,
-        number_at(b, place.state, STATE),
-        number_at(b, place.word, WORD),
-        number_at(b, place.marks, WORD),
-    )
-}
-
-// The refusal in a mending answer. An answer that has none is never asked; 5 stands for it.
-fn refusal_in(answer: Corrected) -> Refusal
-    ensures { RefusedAs answer result }
-{
-    match answer {
-        Corrected::Refused(r) => Refusal::Word(r),
-        Corrected::Near(_) => Refusal::Word(codes::Refusal::NoneNear),
-    }
-}
-
 // Mends a word under its marks, and splits its message.
-fn read_word(code: Code, word: u64, marks: u64) -> ReadAnswer
+fn read_word(code: Code, word: u64, marks: u64) -> Result<Reading, Refusal>
     requires { (word < 2 ^ width (projection code)) × (marks < 2 ^ width (projection code)) }
     ensures { read_answer result ≡ read_corrected (correct (projection code) word marks) }
 {
     let answer = code.correct(word, marks);
-    let Corrected::Near(c) = answer else {
-        return ReadAnswer::Refused(refusal_in(answer));
+    // The form that the scope names; `?` would be shorter.
+    let Ok(c) = answer else {
+        return Err(answer.unwrap_err().into());
     };
-    ReadAnswer::Corrected(Reading {
+    Ok(Reading {
         step: c.message / READINGS,
         reading: c.message % READINGS,
         wrong: c.wrong,
@@ -106,36 +83,45 @@ fn read_word(code: Code, word: u64, marks: u64) -> ReadAnswer
     })
 }
 
-// What a read gives of a slot that holds this, and of it alone. Refusals 10, 11 and 5.
-pub(crate) fn read_content(code: Code, content: Content) -> ReadAnswer
-    requires { Narrow (projection code) content }
-    ensures { read_answer result ≡ read_content (projection code) content }
-{
-    match content {
-        Content::Blank => ReadAnswer::Refused(Refusal::SlotBlank),
-        Content::Bad => ReadAnswer::Refused(Refusal::SlotBad),
-        Content::Written(word, marks) => read_word(code, word, marks),
+impl Found {
+    // What the slot holds.
+    pub(crate) fn content(self, b: &[u8]) -> Content
+        requires { Room (length b.now) self.place }
+        ensures { result ≡ content_at (projection self.code) b.now self.place }
+    {
+        classify(
+            self.code,
+            number_at(b, self.place.state, STATE),
+            number_at(b, self.place.word, WORD),
+            number_at(b, self.place.marks, WORD),
+        )
     }
-}
 
-// Writes the numbers of the slot at a place.
-fn write_slot(b: &mut [u8], place: Place, state: u64, word: u64, marks: u64)
-    requires { Room (length b.old) place }
-    ensures { b.new ≡ store_at b.old place (slot_bytes state word marks) }
-{
-    store(b, place.state, STATE, state);
-    store(b, place.word, WORD, word);
-    store(b, place.marks, WORD, marks);
-}
+    // What a read gives of the slot, and of it alone. Refusals 10, 11 and 5.
+    #[tactic(auto, unfolding(crate::specs::View::read_content))]
+    pub(crate) fn read(self, b: &[u8]) -> Result<Reading, Refusal>
+        requires { Room (length b.now) self.place }
+        ensures { read_answer result ≡ read_content (projection self.code) (content_at (projection self.code) b.now self.place) }
+    {
+        match self.content(b) {
+            Content::Blank => Err(Refusal::SlotBlank),
+            Content::Bad => Err(Refusal::SlotBad),
+            Content::Written(word, marks) => read_word(self.code, word, marks),
+        }
+    }
 
-// Stores a content in the slot at a place. No call stores a bad one.
-pub(crate) fn write_content(b: &mut [u8], place: Place, content: Content)
-    requires { Room (length b.old) place }
-    ensures { b.new ≡ store_at b.old place (content_bytes content) }
-{
-    match content {
-        Content::Blank => write_slot(b, place, BLANK, 0, 0),
-        Content::Written(word, marks) => write_slot(b, place, WRITTEN, word, marks),
-        Content::Bad => write_slot(b, place, BAD, 0, 0),
+    // Stores a content in the slot. No call stores a bad one.
+    pub(crate) fn write(self, b: &mut [u8], content: Content)
+        requires { Room (length b.old) self.place }
+        ensures { b.new ≡ store_at b.old self.place (content_bytes content) }
+    {
+        let (state, word, marks) = match content {
+            Content::Blank => (BLANK, 0, 0),
+            Content::Written(word, marks) => (WRITTEN, word, marks),
+            Content::Bad => (BAD, 0, 0),
+        };
+        store(b, self.place.state, STATE, state);
+        store(b, self.place.word, WORD, word);
+        store(b, self.place.marks, WORD, marks);
     }
 }

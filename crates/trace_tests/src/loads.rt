@@ -2,56 +2,52 @@
 // slot and seed, the words after a load of i and one of i + 1 differ in the position that is drawn last.
 ghost use Rattle.std.specs.Prelude.{◌≤◌};
 
-use crate::last::word;
-use crate::show::{named, show_load, text};
+use crate::buffer::Buffer;
+use crate::show::Answer;
 use std::io;
 
 // A trace of one slot, which holds message 0: its codeword has no ones.
-fn prepared(code: u64) -> [u8; 64] {
-    let mut b = [0u8; 64];
-    trace::make(&mut b, code, 1);
-    trace::put(&mut b, 0, 0, 0);
-    b
+fn prepared(code: u64) -> Buffer {
+    let made = Buffer::filled(0).after(|b| trace::make(b, code, 1));
+    made.after(|b| trace::put(b, 0, 0, 0))
 }
 
 // The slot's word after a load.
-fn loaded_word(buffer: [u8; 64], seed: u32, count: u64) -> u64 {
-    let mut b = buffer;
-    trace::load(&mut b, 0, seed, count);
-    word(&b)
+fn loaded_word(prepared: Buffer, seed: u32, count: u64) -> u64 {
+    prepared
+        .after(|b| trace::load(b, 0, seed, count))
+        .last_word()
 }
 
-// The one position in which two words differ; the width where they differ in none or in more than one.
-fn position_between(width: u64, before: u64, after: u64) -> u64
+// The one position in which two words differ; nothing where they differ in none or in more than one.
+fn position_between(width: u64, before: u64, after: u64) -> Option<u64>
     requires { width ≤ 64 }
 {
     for position in 0..width {
-        if before ^ after == 1u64 << (width - 1 - position) {
-            return position;
+        if before ^ after == 1 << (width - 1 - position) {
+            return Some(position);
         }
     }
-    width
-}
-
-// That position, or that it is not one.
-fn show_position(rt: &impl Print, width: u64, before: u64, after: u64) -> io::Result<()>
-    requires { width ≤ 64 }
-{
-    let position = position_between(width, before, after);
-    if position == width {
-        return text(rt, " (not one position)");
-    }
-    named(rt, " ", position)
+    None
 }
 
 // The positions of a load, in the order of their draws.
-fn show_positions(rt: &impl Print, b: [u8; 64], width: u64, seed: u32, count: u64) -> io::Result<()>
+fn show_positions(
+    rt: &impl Print,
+    prepared: Buffer,
+    width: u64,
+    seed: u32,
+    count: u64,
+) -> io::Result<()>
     requires { width ≤ 64 }
 {
-    let mut before = loaded_word(b, seed, 0);
-    for drawn in 0..count {
-        let after = loaded_word(b, seed, drawn + 1);
-        show_position(rt, width, before, after)?;
+    let mut before = loaded_word(prepared, seed, 0);
+    for drawn in 1..=count {
+        let after = loaded_word(prepared, seed, drawn);
+        match position_between(width, before, after) {
+            Some(position) => print!(rt; " {position}")?,
+            None => print!(rt; " (not one position)")?,
+        }
         before = after;
     }
     Ok(())
@@ -61,17 +57,14 @@ fn show_positions(rt: &impl Print, b: [u8; 64], width: u64, seed: u32, count: u6
 fn play(rt: &impl Print, code: u64, width: u64, seed: u32, count: u64) -> io::Result<()>
     requires { width ≤ 64 }
 {
-    let mut b = prepared(code);
-    named(rt, "width ", width)?;
-    named(rt, " seed ", seed as u64)?;
-    named(rt, " k ", count)?;
-    text(rt, ": positions")?;
+    let b = prepared(code);
+    print!(rt; "width {width} seed {seed} k {count}: positions")?;
     if count == 0 {
-        text(rt, " (none)")?;
+        print!(rt; " (none)")?;
     }
     show_positions(rt, b, width, seed, count)?;
-    show_load(rt, ";", trace::load(&mut b, 0, seed, count))?;
-    text(rt, "\n")
+    let (_, answer) = b.made(|b| trace::load(b, 0, seed, count));
+    println!(rt; "; {}", Answer(answer))
 }
 
 // The worked loads at the widths that codes have, with each code.
@@ -80,6 +73,6 @@ pub(crate) fn play_worked(rt: &impl Print) -> io::Result<()> {
     play(rt, 2, 36, 1, 5)?;
     play(rt, 3, 40, 1, 5)?;
     play(rt, 4, 40, 12345, 3)?;
-    play(rt, 1, 36, 4294967295, 4)?;
+    play(rt, 1, 36, u32::MAX, 4)?;
     play(rt, 3, 40, 2026, 0)
 }

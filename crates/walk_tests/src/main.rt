@@ -3,65 +3,36 @@
 
 ghost use Rattle.std.specs.Prelude.{◌≤◌};
 
-use codes::CodeFound;
+use codes::Code;
 use std::io;
 
-// Writes a text.
-fn text(rt: &impl Print, text: &str) -> io::Result<()> {
-    rt.print(text)
-}
-
-// A number after its name.
-fn named(rt: &impl Print, name: &str, n: u64) -> io::Result<()> {
-    print!(rt; "{name}{n}")
-}
-
-// A number in hexadecimal after its name, so many digits wide.
-fn named_hex(rt: &impl Print, name: &str, n: u64, width: usize) -> io::Result<()> {
-    print!(rt; "{name}{n:0width$x}")
-}
-
-// The columns of a code's words, a digit each.
-fn columns(code: u64) -> usize {
+// The columns of a code's words, a hexadecimal digit each.
+fn columns(code: u64) -> usize
+    ensures { result ≤ 10 }
+{
     if code <= 2 { 9 } else { 10 }
 }
 
-// Writes the columns' parities, the first column's first.
-fn parities(rt: &impl Print, mask: u64, columns: usize) -> io::Result<()> {
-    let mut left = mask;
-    for _ in 0..columns {
-        named(rt, "", left % 2)?;
-        left = left / 2;
-    }
-    Ok(())
-}
-
-// Writes what the walk over a word's columns hands on, on a line: each column's parity, the top row's, and the syndrome, the first row first.
-fn walk(rt: &impl Print, code: u64, word: u64) -> io::Result<()> {
-    named(rt, "code ", code)?;
-    named_hex(rt, " walks ", word, columns(code))?;
-    match codes::Code::from_number(code) {
-        CodeFound::Code(c) => {
-            let walk = c.walk(word);
-            let syndrome = walk.syndrome as u64;
-            text(rt, ": parities ")?;
-            parities(rt, walk.parities, columns(code))?;
-            named(rt, ", top ", counted(walk.top))?;
-            named(rt, ", syndrome ", syndrome / 64)?;
-            named(rt, " ", syndrome / 16 % 4)?;
-            named(rt, " ", syndrome / 4 % 4)?;
-            named(rt, " ", syndrome % 4)?;
+// Writes what the walk over a word's columns hands on, on a line: each column's parity, the first column's first, the top row's, and the syndrome, the
+// first row first.
+fn walk(rt: &impl Print, number: u64, word: u64) -> io::Result<()> {
+    let width = columns(number);
+    print!(rt; "code {number} walks {word:0width$x}: ")?;
+    match Code::try_from(number) {
+        Ok(code) => {
+            let walk = code.walk(word);
+            print!(rt; "parities ")?;
+            for column in 0..width {
+                print!(rt; "{}", (walk.parities >> column) % 2)?;
+            }
+            print!(rt; ", top {}, syndrome", u8::from(walk.top))?;
+            for left in (0..4u32).rev() {
+                print!(rt; " {}", (walk.syndrome >> (2 * left)) % 4)?;
+            }
+            println!(rt)
         }
-        CodeFound::Refused(r) => named(rt, ": refused ", r.number())?,
+        Err(refusal) => println!(rt; "refused {}", refusal.number()),
     }
-    text(rt, "\n")
-}
-
-// 1 where it is so, otherwise 0.
-fn counted(bit: bool) -> u64
-    ensures { result ≤ 1 }
-{
-    if bit { 1 } else { 0 }
 }
 
 fn main(rt: HostRuntime) -> io::Result<()> {

@@ -1,0 +1,16 @@
+-- The marks set and taken away leave the ones outside them.
+use Rattle.std.proofs.Common.{◌∙◌}
+use lib.Bits.{xor_lt, or_lt}
+use Rattle.codes.specs.Projection.{width}
+use Rattle.codes.specs.Codes.{projection}
+use Rattle.codes.proofs.Nearness.{ones_wrong}
+use Rattle.codes.proofs.correction.Marked.wrong.Goals as goal
+
+pub returns : goal.returns
+returns c =
+    let a = c.args in
+    let s = a.self in
+    let π = projection s.code in
+    let n = width (projection s.code) in
+    c.ones.ensures π (xor_lt n _ s.marks (or_lt n _ s.marks (xor_lt n a.codeword s.word c.requires s.word_fits) s.marks_fit) s.marks_fit)
+    ∙ ones_wrong π s.word s.marks a.codeword
