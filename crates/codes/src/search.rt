@@ -18,6 +18,7 @@ use crate::word::lacking;
 const TOP_ROW: u8 = 0;
 
 // A word that is tried under a code: its packed syndrome, and whether its top row's parity is not the codeword's.
+// A column of its matrix goes by its number: a type for one would have to name the code, too, and be no plainer.
 #[derive(Clone, Copy)]
 pub(crate) struct Trial {
     pub code: Code,
@@ -32,7 +33,7 @@ impl Trial {
         requires { (column < size (projection self.code)) × (bits < 16) }
         ensures { result ≡ inverted (projection self.code) self.word column bits }
     {
-        self.word ^ ((bits as u64) << (4 * (self.code.columns() - 1 - column)))
+        self.word ^ (u64::from(bits) << (4 * (self.code.columns() - 1 - column)))
     }
 
     // The trial with one row of a column inverted.
@@ -73,6 +74,7 @@ impl Trial {
             }
             return Some(self.word);
         }
+        // An entry is a number, and 0 where there is none: with an Option the table would have two bytes for each, and the test would stay.
         let named = entry(self.code, self.syndrome);
         if named == 0 {
             return None;

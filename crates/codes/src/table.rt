@@ -7,6 +7,7 @@ ghost use Rattle.codes.specs.ContractsOfSearch.{entry};
 use crate::code::Code;
 
 // The multiples of each column of a matrix, a byte each: those by 3, 2, 1 and 0 from the highest on, packed with the first row highest.
+// Each length has its own tables, here and below: one table of both would be looked up with the length as a number, and be no plainer.
 const MULTIPLES_36: [u32; 10] = [
     0xc080_4000,
     0x3020_1000,
@@ -95,7 +96,7 @@ pub(crate) fn entry(code: Code, syndrome: u8) -> u8
     ensures { result ≡ entry (projection code) syndrome }
 {
     match code {
-        Code::O36 | Code::E36 => ENTRIES_36[syndrome as usize],
-        Code::O40 | Code::E40 => ENTRIES_40[syndrome as usize],
+        Code::O36 | Code::E36 => ENTRIES_36[usize::from(syndrome)],
+        Code::O40 | Code::E40 => ENTRIES_40[usize::from(syndrome)],
     }
 }

@@ -1,4 +1,4 @@
-// A word as an array of columns, by value, and one walk over it. A code of m columns uses the first m of ten. `unpack`, the walk and `message_in` go over
+// A word as an array of columns, by value, which is a form that the scope names, and one walk over it. A code of m columns uses the first m of ten. `unpack`, the walk and `message_in` go over
 // all ten: a loop of a constant number of rounds keeps the array in registers.
 ghost use Rattle.std.specs.Prelude.{◌≡◌, ◌^◌, ◌<◌, Bool, List, map, length};
 ghost use Rattle.symbols.specs.Symbol.{◌⊻◌, has_bit};

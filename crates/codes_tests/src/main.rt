@@ -5,7 +5,8 @@ ghost use Rattle.std.specs.Prelude.{◌≤◌, ◌<◌};
 
 use std::io;
 
-// The columns of a code's words, a hexadecimal digit each.
+// The columns of a code's words, a hexadecimal digit each. It stands in each test program, which takes none of the library's numbers: a crate for it would
+// be longer.
 fn columns(code: u64) -> usize {
     if code <= 2 { 9 } else { 10 }
 }

@@ -6,7 +6,7 @@ use crate::slots::{Answer, BLANK, Call, Group, group_of};
 use crate::words::{READINGS, Word, ones};
 use trace::Reading;
 
-// Why a word call is refused, by the scope's numbers.
+// Why a word call is refused, by the scope's numbers: a case of the library's enum would be compared with itself.
 const NOT_A_CODEWORD: u64 = 4;
 
 const NONE_NEAR: u64 = 5;
@@ -18,7 +18,7 @@ pub(crate) struct Disagrees;
 // What the right answer says, where it was given.
 pub(crate) type Outcome<T> = Result<T, Disagrees>;
 
-// What a call answered.
+// What a call answered: three cases that are counted apart, which no nested Option says more plainly.
 #[derive(Clone, Copy, PartialEq, Eq)]
 pub(crate) enum Answered {
     Accepted,

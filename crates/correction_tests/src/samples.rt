@@ -1,4 +1,5 @@
-// Words that are made up: disturbed codewords, believable faults, and noise.
+// Words that are made up: disturbed codewords, believable faults, and noise. The code and the state of the draws are two arguments: a struct of both would
+// be made anew for every draw, and be no plainer.
 ghost use Rattle.std.specs.Prelude.{◌≤◌, ◌<◌};
 
 use crate::codewords::codeword;

@@ -26,7 +26,7 @@ pub(crate) struct Written {
 // A slot; nothing where it was never written, or was cleared.
 pub(crate) type Slot = Option<Written>;
 
-// Why a call is refused, by the scope's numbers.
+// Why a call is refused, by the scope's numbers: the library's enum would be compared with itself.
 pub(crate) const NO_SLOT: u64 = 9;
 
 pub(crate) const BLANK: u64 = 11;

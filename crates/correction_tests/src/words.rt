@@ -1,5 +1,5 @@
-// What the tests know of a code and its words, by plain arithmetic. A code goes by its number, as the scope has it, so that nothing here is
-// the library's. A message is a step times 4096 plus a reading.
+// What the tests know of a code and its words, by plain arithmetic. A code goes by its number, as the scope has it: which
+// of two lengths it has is all that is asked, so an enum would be no plainer. Nothing here is the library's. A message is a step times 4096 plus a reading.
 ghost use Rattle.std.specs.Prelude.{◌≤◌, ◌<◌};
 
 // The readings of a step.

@@ -107,7 +107,7 @@ other_reports =
 -- a load's number is large: its ten digits are computed with room for no more
 load_line : answer_line (accepted (2165703038 ∷ [])) ≡ text "ok 2165703038\n"
 unfolding noted each digits
-load_line = rw (decimal_within 9 2165703038 (lit< tt) (lit< tt))
+load_line = rw (decimal_within 9 2165703038 (lit< tt))
 
 pub answer_lines : AnswerLines
 unfolding

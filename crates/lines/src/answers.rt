@@ -1,10 +1,10 @@
 // The answers to a script's lines.
 ghost use Rattle.std.specs.Prelude.{◌≡◌, [], ◌∷◌, ◌++◌, ◌≤◌};
 ghost use Rattle.codes.specs.Answer.{accepted, map_answer};
-ghost use Rattle.trace.specs.Answers.{done_answer, load_answer, read_answer, reading_values, survey_answer, pressures_values};
+ghost use Rattle.trace.specs.Answers.{values_answer, done_answer, load_answer, read_answer, reading_values, survey_answer, pressures_values};
 ghost use Rattle.lines.specs.Text.{spaced};
 ghost use Rattle.lines.specs.Answers.{answer_line, absences, survey_line, bytes_line};
-ghost use Rattle.lines.specs.ContractsOfSteps.{HasRoom, values_answer};
+ghost use Rattle.lines.specs.ContractsOfSteps.{HasRoom};
 
 use crate::input::LONGEST;
 use crate::line::{write_line, write_refused};
@@ -50,7 +50,7 @@ pub fn load_line(answer: Result<u32, Refusal>) -> ArrayString<ANSWER>
     values_line(answer.map(
         |number|
             ensures { result ≡ number ∷ [] }
-        { [number as u64] },
+        { [u64::from(number)] },
     ))
 }
 

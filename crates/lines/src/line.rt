@@ -1,4 +1,5 @@
-// Lines: each function writes one, or the rest of one, behind what a string holds, in which there must be room for it.
+// Lines: each function writes one, or the rest of one, behind what a string holds, in which there must be room for it. How much that is follows from the
+// text, and is another number for each function: no type would say it once.
 ghost use Rattle.std.specs.Prelude.{◌≡◌, ◌++◌};
 ghost use Rattle.trace.specs.Answers.{read_answer};
 ghost use Rattle.lines.specs.Text.{noted, line};

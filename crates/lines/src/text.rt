@@ -27,15 +27,15 @@ pub(crate) fn write_decimal<const N: usize>(out: &mut ArrayString<N>, number: u6
     out.push_str(Buffer::new().format(number));
 }
 
-// The character of a hexadecimal digit, in upper case.
+// The character of a hexadecimal digit, in upper case. `char::from_digit` gives lower case, so it would be no plainer.
 fn hex_digit(digit: u8) -> char
     requires { digit < 16 }
     ensures value { result ≡ hex_digit digit }
     ensures ascii { result < 128 }
 {
     match digit {
-        0..=9 => (b'0' + digit) as char,
-        _ => (b'A' + (digit - 10)) as char,
+        0..=9 => char::from(b'0' + digit),
+        _ => char::from(b'A' + (digit - 10)),
     }
 }
 
@@ -50,6 +50,7 @@ pub(crate) fn write_hex<const N: usize>(out: &mut ArrayString<N>, byte: u8)
 }
 
 // Each byte as two hexadecimal digits.
+// The loop is its own, as that of `write_numbers`: one that takes the step as a closure would need a contract of it, and be longer.
 #[tactic(auto, using(crate::proofs::Texts::each_more), unfolding(crate::specs::Text::each))]
 pub(crate) fn write_hexes<const N: usize>(out: &mut ArrayString<N>, bytes: &[u8])
     requires { HasRoom N out.old (each hex bytes.now) }

@@ -46,7 +46,7 @@ fn write_visible<const N: usize>(out: &mut ArrayString<N>, byte: u8)
     ensures { out.new.bytes ≡ out.old.bytes ++ visible_byte byte }
 {
     if is_plain(byte) {
-        out.push(byte as char);
+        out.push(char::from(byte));
     } else {
         out.push_str("\\x");
         write_hex(out, byte);

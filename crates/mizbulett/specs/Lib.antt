@@ -1,5 +1,3 @@
 -- What a reader must believe of the calls for C, in reading order: what a C caller has after a call, and what is claimed of it.
 pub mod Returned
 pub mod Claims
--- What the parts of a call promise each other. No claim rests on it but by the proofs.
-pub mod ContractsOfSteps

@@ -1,8 +1,7 @@
 // What a call for C returns and writes.
 ghost use Rattle.std.specs.Prelude.{◌≡◌, [], ◌∷◌};
-ghost use Rattle.trace.specs.Answers.{done_answer};
+ghost use Rattle.trace.specs.Answers.{values_answer, done_answer};
 ghost use Rattle.mizbulett.specs.Returned.{number_of, returned, returns};
-ghost use Rattle.mizbulett.specs.ContractsOfSteps.{values_answer};
 
 use trace::Refusal;
 

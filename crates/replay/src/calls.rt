@@ -3,7 +3,8 @@ ghost use Rattle.std.specs.Prelude.{◌≡◌, true, false, MatchOption};
 ghost use Rattle.replay.specs.Numbers.{is_call};
 ghost use Rattle.replay.specs.ContractsOfSteps.{BeginsWith, call_of, fits, named};
 
-// A call. The lists of a list of puts stay in the slice that the call is read from.
+// A call, as it is read from numbers: kinds are numbers there, which is replay's format, and nowhere else. The lists of a list of puts stay in the slice
+// that the call is read from.
 #[derive(Clone, Copy)]
 pub(crate) enum Call<'a> {
     Put {

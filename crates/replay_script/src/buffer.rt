@@ -7,7 +7,8 @@ use lines::LONGEST;
 // More bytes are not lent.
 const SIZE: usize = LONGEST;
 
-// A buffer, at whose front the lent bytes stand, and how many are lent.
+// A buffer, at whose front the lent bytes stand, and how many are lent. A vector of a fixed capacity would be no plainer: the bytes are written in place,
+// and no byte is pushed.
 #[derive(Drop)]
 pub(crate) struct Buffer {
     pub(crate) bytes: [u8; SIZE],

@@ -1,5 +1,5 @@
 -- Where blanks, words and lines end.
-use Rattle.std.proofs.Common.{◌≡◌, ◌≢◌, Bool, true, false, cond, Option, Some, None, unwrap_or, position, MatchOption, List, [], ◌∷◌, ◌++◌, ℕ, suc, ◌+◌, ◌-◌, ◌≤◌, nat_lt, length, get_or, take, drop, refl, sym, ap, ◌∙◌, arith, ne_eqb, Bor}
+use Rattle.std.proofs.Common.{◌≡◌, ◌≢◌, Bool, true, false, cond, Option, Some, None, unwrap_or, position, MatchOption, List, [], ◌∷◌, ◌++◌, ℕ, suc, ◌+◌, ◌-◌, ◌<◌, ◌≤◌, nat_lt, length, get_or, take, drop, refl, sym, ap, ◌∙◌, arith, ne_eqb, Bor}
 use Rattle.std.proofs.Math.Seq.{take-suc}
 use Rattle.std.proofs.lemmas.List.{take_all}
 use Rattle.std.specs.List.{position_or_len, slice_split, onto_first}
@@ -112,17 +112,18 @@ words_skip (c ∷ cs) = go (is_blank c) refl (words_skip cs)
     go true e more = rw e more
     go false e more = refl
 
+-- a piece that is not empty is a word
+word_on_lem : (w : List ℕ) (ps : List (List ℕ)) → 0 < length w → w ∷ filled ps ≡ filled (w ∷ ps)
+word_on_lem [] ps h = absurd (omega arith)
+word_on_lem (c ∷ cs) ps h = refl
+
 -- blanks in front make no word; where none is in front, the first word is the first piece, and the others are the words of what is left
 pub words_next : (l : List ℕ) → (length (word (skip_blanks l)) ≡ 0 → ⊥)
     → words l ≡ word (skip_blanks l) ∷ words (drop (length (word (skip_blanks l))) (skip_blanks l))
 words_next l some = sym (words_skip l) ∙ first (skip_blanks l) some
   where
     first : (t : List ℕ) → (length (word t) ≡ 0 → ⊥) → words t ≡ word t ∷ words (drop (length (word t)) t)
-    first t some = ap filled (pieces_first is_blank t) ∙ go (word t) some ∙ ap (λ (ws : List (List ℕ)). word t ∷ ws) (words_rest t)
-      where
-        go : (w : List ℕ) → (length w ≡ 0 → ⊥) → filled (w ∷ rest is_blank (drop (length (word t)) t)) ≡ w ∷ filled (rest is_blank (drop (length (word t)) t))
-        go [] some = absurd (some refl)
-        go (c ∷ cs) some = refl
+    first t some = ap filled (pieces_first is_blank t) ∙ sym (word_on_lem (word t) (rest is_blank (drop (length (word t)) t)) (omega arith)) ∙ ap (λ (ws : List (List ℕ)). word t ∷ ws) (words_rest t)
 
 -- where no word stands in front of what is left, nothing is left
 skip_none : (l : List ℕ) → length (word (skip_blanks l)) ≡ 0 → skip_blanks l ≡ []

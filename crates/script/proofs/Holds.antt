@@ -14,10 +14,10 @@ hold_long : (c : ℕ) (line : List ℕ) → longest_line ≤ length line → hol
 hold_long c line h = simp (le-ltb (length line) longest_line h)
 
 -- a line that still has room
-hold_more : (cs line : List ℕ) → length line + length cs ≤ longest_line → hold_all cs (Some line) ≡ Some (line ++ cs)
-hold_more [] line fits = ap (λ (l : List ℕ). Some l) (sym (append-nil line))
-hold_more (c ∷ cs) line fits =
-    ap (hold_all cs) (hold_next c line (omega arith)) ∙ hold_more cs (line ++ c ∷ []) (omega (arith, length-append line (c ∷ [])))
+hold_all_lem : (cs line : List ℕ) → length line + length cs ≤ longest_line → hold_all cs (Some line) ≡ Some (line ++ cs)
+hold_all_lem [] line fits = ap (λ (l : List ℕ). Some l) (sym (append-nil line))
+hold_all_lem (c ∷ cs) line fits =
+    ap (hold_all cs) (hold_next c line (omega arith)) ∙ hold_all_lem cs (line ++ c ∷ []) (omega (arith, length-append line (c ∷ [])))
     ∙ ap (λ (l : List ℕ). Some l) (append_assoc line (c ∷ []) cs)
 
 too_long : (cs : List ℕ) → hold_all cs None ≡ None
@@ -35,4 +35,4 @@ hold_beyond (c ∷ cs) line h long = elim (cases_lt (length line) longest_line) 
 ]
 
 pub lines_held : LinesHeld
-lines_held = record { held = λ line fits. hold_more line [] (omega arith); long = λ line long. hold_beyond line [] (omega arith) (omega arith) }
+lines_held = record { held = λ line fits. hold_all_lem line [] (omega arith); long = λ line long. hold_beyond line [] (omega arith) (omega arith) }

@@ -2,14 +2,14 @@
 use Rattle.std.proofs.Common.{◌≡◌, Bool, true, false, cond, Option, Some, None, List, [], ◌∷◌, ℕ, ◌≤◌, ◌<◌, length, get_or, take, drop, ◌-◌, length-drop, refl, sym, ap, ◌∙◌, arith}
 use Rattle.script.specs.Script.{is_blank, skip_blanks, hex_byte, number_on, hex_bytes}
 use Rattle.std.proofs.lemmas.List.{take_all}
-use Rattle.script.specs.ContractsOfSteps.{pairs}
-use Rattle.script.proofs.Walks.{all_of}
+use Rattle.script.specs.ContractsOfSteps.{pairs, all_of}
+use Rattle.script.proofs.Walks.{all_front}
 
 pub all_pairs : (l : List ℕ) → all_of (pairs l) ≡ hex_bytes l
 all_pairs [] = refl
 all_pairs (c ∷ []) = go (is_blank c)
   where
-    go : (blank : Bool) → all_of (cond blank [] (None ∷ [])) ≡ cond blank (Some []) None
+    go : (blank : Bool) → all_of {A = ℕ} (cond blank [] (None ∷ [])) ≡ cond blank (Some []) None
     go true = refl
     go false = refl
 all_pairs (c ∷ (d ∷ cs)) = go (is_blank c) (all_pairs (d ∷ cs)) (all_pairs cs)
@@ -17,7 +17,7 @@ all_pairs (c ∷ (d ∷ cs)) = go (is_blank c) (all_pairs (d ∷ cs)) (all_pairs
     go : (blank : Bool) → all_of (pairs (d ∷ cs)) ≡ hex_bytes (d ∷ cs) → all_of (pairs cs) ≡ hex_bytes cs
         → all_of (cond blank (pairs (d ∷ cs)) (hex_byte c d ∷ pairs cs)) ≡ cond blank (hex_bytes (d ∷ cs)) (number_on (hex_byte c d) (hex_bytes cs))
     go true e f = e
-    go false e f = ap (number_on (hex_byte c d)) f
+    go false e f = all_front (hex_byte c d) (pairs cs) ∙ ap (number_on (hex_byte c d)) f
 
 -- no blank stands in front
 abbrev Starts : List ℕ → Type 0

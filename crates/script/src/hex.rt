@@ -4,9 +4,10 @@ ghost use Rattle.script.specs.Script.{hex_value, hex_byte, hex_bytes};
 ghost use Rattle.script.specs.Lending.{over};
 ghost use Rattle.script.specs.ContractsOfSteps.{list_of, IsList};
 
+use crate::items::{count, write};
 use crate::parts::skip_blanks;
 
-// The value of a hexadecimal digit in either case.
+// The value of a hexadecimal digit in either case. A char's `to_digit` would be no plainer: what a line means is said by the bytes.
 fn hex_value(byte: u8) -> Option<u8>
     ensures value { result ≡ hex_value byte }
     ensures digit { IfSome result (λ value. value < 16) }
@@ -63,12 +64,7 @@ impl<'a> Iterator for Pairs<'a> {
 pub(crate) fn count_pairs(text: &[u8]) -> Option<usize>
     ensures { result ≡ option_map length (hex_bytes text.now) }
 {
-    let mut n = 0;
-    for pair in Pairs(text) {
-        pair?;
-        n += 1;
-    }
-    Some(n)
+    count(Pairs(text))
 }
 
 // Writes the bytes that a text is in hexadecimal over the front of a buffer that has room for them.
@@ -77,13 +73,5 @@ pub(crate) fn write_pairs(text: &[u8], buffer: &mut [u8])
     requires fit { length (list_of (hex_bytes text.now)) ≤ length buffer.old }
     ensures { buffer.new ≡ over (list_of (hex_bytes text.now)) buffer.old }
 {
-    // `enumerate`: tried, and the proof didn't close.
-    let mut i = 0;
-    for pair in Pairs(text) {
-        let Some(byte) = pair else {
-            return;
-        };
-        buffer[i] = byte;
-        i += 1;
-    }
+    write(Pairs(text), buffer);
 }

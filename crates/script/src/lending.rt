@@ -16,7 +16,7 @@ pub enum NotTaken {
     Nothing,
 }
 
-// Lends as many zero bytes, where they fit.
+// Lends as many zero bytes, where they fit. The test of the room stands in three functions: with `get_mut` and `?`, tried, the proof didn't close.
 fn lend_zeros(n: u64, buffer: &mut [u8]) -> Result<usize, NotTaken>
     ensures lent { lending result buffer.new ≡ lend_in (Some (zeros n)) buffer.old }
     ensures fits { Fits result buffer.old }

@@ -5,6 +5,7 @@
 mod answering;
 mod held;
 mod hex;
+mod items;
 mod lending;
 mod line;
 mod lists;

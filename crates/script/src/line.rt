@@ -8,7 +8,7 @@ use crate::lists::count_lists;
 use crate::numbers::parse_numbers;
 use crate::parts::{bare, skip_blanks, split_word};
 
-// A call on the lent bytes.
+// A call on the lent bytes, as a line has it: it has makings and no lists, which a call of `replay` has, so that each is an enum of its own.
 #[derive(Clone, Copy)]
 pub enum Call {
     // Code and slots.

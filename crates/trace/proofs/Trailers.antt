@@ -1,12 +1,13 @@
 -- The trailer: the numbers that a buffer has which ends with one, and the stores that write one. Each number begins where those before it end,
 -- and numbers that are stored one behind the other are stored at once; zeros and trailer, which reach to the buffer's end, leave the bytes
 -- before them.
-use Rattle.std.proofs.Common.{◌≡◌, ℕ, ◌+◌, ◌-◌, ◌^◌, ◌<◌, ◌≤◌, List, [], ◌++◌, length, take, refl, ap, ◌∙◌, append_assoc, append-nil, add-zero, arith, length-append}
+use Rattle.std.proofs.Common.{◌≡◌, ℕ, ◌+◌, ◌-◌, ◌^◌, ◌<◌, ◌≤◌, List, [], ◌++◌, length, take, replicate, sym, refl, ap, ◌∙◌, append_assoc, append-nil, add-zero, arith, length-append}
 use lib.Seq.{drop-length}
+use borrow.Rule.Slice.PartMut.{mid_of, put_mid}
 use Rattle.trace.specs.Layout.{bytes_of, number_at, overwrite, trailer_size, distance_of, needed_for}
 use Rattle.trace.specs.Layout.{trailer, trailer_at, distance_in, count_in, code_in, edition_in, made}
 use Rattle.trace.proofs.Numbers.{length_bytes, bytes_zero}
-use Rattle.trace.proofs.Parts.{number_middle, overwrite_join}
+use Rattle.trace.proofs.Parts.{number_middle, overwrite_join, fill_part}
 
 pub length_trailer : (code n : ℕ) → length (trailer code n) ≡ trailer_size
 unfolding trailer
@@ -69,6 +70,14 @@ trailer_written b at code n h =
 overwrite_end : (b xs : List ℕ) (at : ℕ) → at + length xs ≡ length b → overwrite b at xs ≡ take at b ++ xs
 unfolding overwrite
 overwrite_end b xs at e = simp (e, drop-length, append-nil)
+
+-- zeros that fill the part before the trailer
+pub zeros_written : (b filled : List ℕ) (t d : ℕ) → d ≤ t → t ≤ length b → filled ≡ replicate (length (mid_of (t - d) (t - (t - d)) b)) 0
+    → put_mid (t - d) (t - (t - d)) b filled ≡ overwrite b (t - d) (bytes_of d 0)
+zeros_written b filled t d before inside e =
+    let size : t - (t - d) ≡ t - d + d - (t - d) = omega arith in
+    let zeros : filled ≡ bytes_of (length (mid_of (t - d) (t - (t - d)) b)) 0 = e ∙ sym (bytes_zero _) in
+    rw size (fill_part b filled (t - d) d 0 (omega arith) (rw size at zeros))
 
 -- the blank slots and the trailer
 pub made_written : (b : List ℕ) (code n : ℕ) → needed_for n ≤ length b

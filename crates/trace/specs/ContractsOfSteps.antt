@@ -5,6 +5,7 @@ use Rattle.codes.specs.Projection.{Projection, width}
 use Rattle.codes.specs.Codes.{projection, code_of}
 use Rattle.codes.specs.Word.{bit}
 use Rattle.trace.specs.declared.answer.Refusal.{Refusal}
+use Rattle.trace.specs.declared.answer.Refusal.TheVariants.{SlotBad, SlotBlank}
 use Rattle.trace.specs.declared.layout.Place.{Place}
 use Rattle.trace.specs.declared.layout.Header.{Header}
 use Rattle.trace.specs.declared.layout.Found.{Found}
@@ -123,6 +124,11 @@ pub record RefusedBy {T : Type 0} (step : Step T) (slot : ℕ) (b : List ℕ) (r
 abbrev pub ChangedBy : {T : Type 0} → Step T → ℕ → List ℕ → List ℕ → Result T Refusal → Type 0
 ChangedBy step slot b b' (Ok t) = StoredBy step slot b b' t
 ChangedBy step slot b b' (Err r) = (b' ≡ b) × (Refuses (slot_rows_in b slot) (refusal_number r) ⊎ RefusedBy step slot b r)
+
+-- a written slot's word and marks, or why a slot has none
+abbrev pub Writing : Content → Result (ℕ × ℕ) Refusal → Type 0
+Writing c (Ok (word, marks)) = c ≡ Content.Written word marks
+Writing c (Err r) = ((c ≡ Content.Bad) × (r ≡ SlotBad)) ⊎ ((c ≡ Content.Blank) × (r ≡ SlotBlank))
 
 -- a position's bit in a written slot
 pub record BitIn (π : Projection) (c : Content) (position word marks x : ℕ) : Type 0 where

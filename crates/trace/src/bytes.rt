@@ -2,7 +2,7 @@
 ghost use Rattle.std.specs.Prelude.{◌≡◌, ◌+◌, ◌^◌, ◌<◌, ◌≤◌, length};
 ghost use Rattle.trace.specs.Layout.{bytes_of, number_from, number_at, overwrite};
 
-// The number in a part's bytes.
+// The number in a part's bytes. They are any number up to five: `from_be_bytes` would copy them into an array first.
 fn number(part: &[u8]) -> u64
     requires { length part.now ≤ 5 }
     ensures { (result ≡ number_from 0 part.now) × (result < 256 ^ length part.now) }
@@ -14,7 +14,7 @@ fn number(part: &[u8]) -> u64
     value
 }
 
-// The number in `size` bytes from `at` on.
+// The number in `size` bytes from `at` on: the callers have a place of the format and a size, and a slice cut at each of them would be no plainer.
 pub(crate) fn number_at(b: &[u8], at: usize, size: usize) -> u64
     requires { (at + size ≤ length b.now) × (size ≤ 5) }
     ensures { (result ≡ number_at b.now at size) × (result < 256 ^ size) }

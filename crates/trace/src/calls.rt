@@ -1,4 +1,4 @@
-// The trace calls but the survey. Each takes any buffer and any numbers; a refused call changes no byte.
+// The trace calls but the survey. Each takes any buffer and any numbers, as the C interface has them; a refused call changes no byte.
 ghost use Rattle.std.specs.Prelude.{◌≡◌};
 ghost use Rattle.codes.specs.Answer.{map_answer};
 ghost use Rattle.trace.specs.Calls.{after, put, flip, mark, load, clear, read};

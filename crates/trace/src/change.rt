@@ -39,42 +39,32 @@ impl Held {
     pub(crate) fn bit(self, position: u64) -> Result<BitFound, Refusal>
         ensures { FindingBit (projection self.code) self.content position result }
     {
-        match self.content {
-            Content::Bad => Err(Refusal::SlotBad),
-            Content::Blank => Err(Refusal::SlotBlank),
-            Content::Written(word, marks) => {
-                let width = self.code.width();
-                if width <= position {
-                    return Err(Refusal::NoPosition);
-                }
-                Ok(BitFound {
-                    word,
-                    marks,
-                    bit: bit(width, position),
-                })
-            }
+        let (word, marks) = self.content.written()?;
+        let width = self.code.width();
+        if width <= position {
+            return Err(Refusal::NoPosition);
         }
+        Ok(BitFound {
+            word,
+            marks,
+            bit: bit(width, position),
+        })
     }
 
     // Refusals 10, 11 and 14: the drawn positions inverted, and the number handed back.
     pub(crate) fn load(self, seed: u32, count: u64) -> Result<(Content, u32), Refusal>
         ensures { Changing load_answer (load_change (projection self.code) self.content seed count) result }
     {
-        match self.content {
-            Content::Bad => Err(Refusal::SlotBad),
-            Content::Blank => Err(Refusal::SlotBlank),
-            Content::Written(word, marks) => {
-                let width = self.code.width();
-                if width < count {
-                    return Err(Refusal::TooMany);
-                }
-                let load = draw_all(width, seed, count);
-                Ok((
-                    Content::Written(word ^ load.picked, marks),
-                    load.generator.number,
-                ))
-            }
+        let (word, marks) = self.content.written()?;
+        let width = self.code.width();
+        if width < count {
+            return Err(Refusal::TooMany);
         }
+        let load = draw_all(width, seed, count);
+        Ok((
+            Content::Written(word ^ load.picked, marks),
+            load.generator.number,
+        ))
     }
 }
 

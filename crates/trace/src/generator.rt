@@ -1,4 +1,4 @@
-// The generator of a fault load: the published Numerical Recipes generator.
+// The generator of a fault load: the published Numerical Recipes generator. The wrapping multiply and the wrapping add that the scope names are std's.
 ghost use Rattle.std.specs.Prelude.{◌≡◌, ◌<◌};
 ghost use Rattle.trace.specs.Load.{advance, rank_of};
 
@@ -17,7 +17,8 @@ pub(crate) struct Generator {
 }
 
 impl Generator {
-    // A draw: the generator after it, and which of so many positions is picked, counted upward from 0.
+    // A draw: the generator after it, and which of so many positions is picked, counted upward from 0. There are some: a type of numbers above 0 would be no
+    // plainer than the clause.
     fn draw(self, unpicked: u64) -> (Generator, u64)
         requires { 0 < unpicked }
         ensures { (result.0.number ≡ advance self.number) × (result.1 ≡ rank_of self.number unpicked) }

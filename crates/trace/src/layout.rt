@@ -65,6 +65,7 @@ impl TryFrom<u64> for SlotCount {
     fn try_from(number: u64) -> Result<Self, Refusal> {
         if (1..=MOST_SLOTS).contains(&number) {
             return Ok(SlotCount {
+                // `as`, here and below: a number of 64 bits fits, and `try_from` would add an error that can't come.
                 number: number as usize,
             });
         }
@@ -172,13 +173,12 @@ fn write_trailer(b: &mut [u8], at: usize, code: u64, slots: SlotCount)
 }
 
 // Writes blank slots and the trailer at the buffer's end.
-#[tactic(auto, using(crate::proofs::Trailers::made_written))]
 pub(crate) fn write_blank(b: &mut [u8], code: u64, slots: SlotCount)
     requires { needed_for slots.number ≤ length b.old }
     ensures { b.new ≡ made (record { code = code; slots = slots.number }) b.old }
 {
     let size = slots.distance();
     let t = b.len() - TRAILER;
-    store(b, t - size, size, 0);
+    b[t - size..t].fill(0);
     write_trailer(b, t, code, slots);
 }

@@ -7,14 +7,14 @@ ghost use Rattle.trace.specs.Layout.{content_bytes, store_at};
 ghost use Rattle.trace.specs.View.{read_corrected, read_content};
 ghost use Rattle.trace.specs.Trace.{content_with, content_at};
 ghost use Rattle.trace.specs.Answers.{read_answer};
-ghost use Rattle.trace.specs.ContractsOfSteps.{Room};
+ghost use Rattle.trace.specs.ContractsOfSteps.{Room, Writing};
 
 use crate::answer::{Reading, Refusal};
 use crate::bytes::{number_at, store};
 use crate::layout::{Found, STATE, WORD};
 use codes::Code;
 
-// The states of a slot; any other than the first two is bad.
+// The states of a slot. They are the format's bytes, not an enum: a stored byte may be any number, and any other than the first two is bad.
 const BLANK: u64 = 0;
 
 const WRITTEN: u64 = 1;
@@ -37,6 +37,19 @@ pub(crate) enum Content {
 pub(crate) struct Held {
     pub code: Code,
     pub content: Content,
+}
+
+impl Content {
+    // Refusals 10 and 11: a written slot's word and marks.
+    pub(crate) fn written(self) -> Result<(u64, u64), Refusal>
+        ensures { Writing self result }
+    {
+        match self {
+            Content::Blank => Err(Refusal::SlotBlank),
+            Content::Bad => Err(Refusal::SlotBad),
+            Content::Written(word, marks) => Ok((word, marks)),
+        }
+    }
 }
 
 // The bit of a position in a word of so many bits: position 0 is the highest.
@@ -103,11 +116,8 @@ impl Found {
         requires { Room (length b.now) self.place }
         ensures { read_answer result ≡ read_content (projection self.code) (content_at (projection self.code) b.now self.place) }
     {
-        match self.content(b) {
-            Content::Blank => Err(Refusal::SlotBlank),
-            Content::Bad => Err(Refusal::SlotBad),
-            Content::Written(word, marks) => read_word(self.code, word, marks),
-        }
+        let (word, marks) = self.content(b).written()?;
+        read_word(self.code, word, marks)
     }
 
     // Stores a content in the slot. No call stores a bad one.

@@ -1,8 +1,9 @@
 // Lists of puts, tried: each refusal, also where later ones apply too; empty lists; starts to which no number can be added; lists that fit exactly.
 // Each accepted list is held against its single puts.
-ghost use Rattle.std.specs.Prelude.{◌≤◌, ◌<◌};
+ghost use Rattle.std.specs.Prelude.{◌≤◌};
 
 use crate::buffer::Buffer;
+use crate::code::Code;
 use std::io;
 
 // The single puts of lists, of at most five pairs.
@@ -42,9 +43,9 @@ fn no_trace(rt: &impl Print, b: Buffer) -> io::Result<()> {
 }
 
 // Refusal 9: the slot behind the last one, and the last number there is, to which no count can be added.
-fn no_start(rt: &impl Print, b: Buffer, limit: u64) -> io::Result<()> {
+fn no_start(rt: &impl Print, b: Buffer, code: Code) -> io::Result<()> {
     b.put_list(rt, 5, &[], &[])?;
-    b.put_list(rt, 5, &[limit, 0], &[4096])?;
+    b.put_list(rt, 5, &[code.steps, 0], &[4096])?;
     b.put_list(rt, u64::MAX, &[], &[])?;
     b.put_list(rt, u64::MAX, &[1], &[1])?;
     b.put_list(rt, u64::MAX - 1, &[1, 2, 3], &[1, 2, 3])?;
@@ -52,27 +53,27 @@ fn no_start(rt: &impl Print, b: Buffer, limit: u64) -> io::Result<()> {
 }
 
 // Refusal 15: one step more than slots, also where the lists differ in length and have numbers that are too large.
-fn past_end(rt: &impl Print, b: Buffer, limit: u64) -> io::Result<()> {
+fn past_end(rt: &impl Print, b: Buffer, code: Code) -> io::Result<()> {
     b.put_list(rt, 4, &[1, 2], &[1, 2])?;
-    b.put_list(rt, 4, &[limit, 2], &[4096])?;
+    b.put_list(rt, 4, &[code.steps, 2], &[4096])?;
     b.put_list(rt, 0, &[1, 2, 3, 4, 5, 6], &[])?;
     b.put_list(rt, 1, &[1, 2, 3, 4, 5], &[1, 2, 3, 4, u64::MAX])?;
     Ok(())
 }
 
 // Refusal 16: steps or readings are missing, also where numbers are too large.
-fn uneven(rt: &impl Print, b: Buffer, limit: u64) -> io::Result<()> {
+fn uneven(rt: &impl Print, b: Buffer, code: Code) -> io::Result<()> {
     b.put_list(rt, 4, &[], &[1])?;
     b.put_list(rt, 0, &[1], &[])?;
-    b.put_list(rt, 0, &[limit, 1], &[4096])?;
+    b.put_list(rt, 0, &[code.steps, 1], &[4096])?;
     b.put_list(rt, 3, &[1, 2], &[1, 2, 3, 4, 5, 6])?;
     Ok(())
 }
 
 // Refusal 13: the first, a middle and the last number of each list.
-fn too_large(rt: &impl Print, b: Buffer, limit: u64) -> io::Result<()> {
-    b.put_list(rt, 0, &[limit, 1, 2], &[4, 5, 6])?;
-    b.put_list(rt, 0, &[0, limit, 2], &[4, 5, 6])?;
+fn too_large(rt: &impl Print, b: Buffer, code: Code) -> io::Result<()> {
+    b.put_list(rt, 0, &[code.steps, 1, 2], &[4, 5, 6])?;
+    b.put_list(rt, 0, &[0, code.steps, 2], &[4, 5, 6])?;
     b.put_list(rt, 0, &[0, 1, u64::MAX], &[4, 5, 6])?;
     b.put_list(rt, 0, &[0, 1, 2], &[4096, 5, 6])?;
     b.put_list(rt, 0, &[0, 1, 2], &[4, u64::MAX, 6])?;
@@ -81,13 +82,11 @@ fn too_large(rt: &impl Print, b: Buffer, limit: u64) -> io::Result<()> {
 }
 
 // Lists that are accepted: empty ones, one pair in the last slot, all slots at once with the largest numbers, one list as both.
-fn fitting(rt: &impl Print, b: Buffer, limit: u64) -> io::Result<()>
-    requires { 0 < limit }
-{
+fn fitting(rt: &impl Print, b: Buffer, code: Code) -> io::Result<()> {
     put_both(rt, b, 0, &[], &[])?;
     put_both(rt, b, 4, &[], &[])?;
     put_both(rt, b, 4, &[74], &[2385])?;
-    let most = limit - 1;
+    let most = code.steps - 1;
     put_both(rt, b, 0, &[most, 0, 1, 2, most], &[4095, 0, 1, 4094, 4095])?;
     let both = [3, 2, 1];
     put_both(rt, b, 1, &both, &both)?;
@@ -110,17 +109,15 @@ fn again(rt: &impl Print, b: Buffer) -> io::Result<()> {
     Ok(())
 }
 
-// The lists of a code, whose steps are below a limit.
-pub(crate) fn play_lists(rt: &impl Print, code: u64, limit: u64) -> io::Result<()>
-    requires { 0 < limit }
-{
+// The lists of a code.
+pub(crate) fn play_lists(rt: &impl Print, code: Code) -> io::Result<()> {
     let unmade = Buffer::filled(255);
     no_trace(rt, unmade)?;
-    let b = unmade.after(|b| trace::make(b, code, 5));
-    no_start(rt, b, limit)?;
-    past_end(rt, b, limit)?;
-    uneven(rt, b, limit)?;
-    too_large(rt, b, limit)?;
-    fitting(rt, b, limit)?;
+    let b = unmade.after(|b| trace::make(b, code.number, 5));
+    no_start(rt, b, code)?;
+    past_end(rt, b, code)?;
+    uneven(rt, b, code)?;
+    too_large(rt, b, code)?;
+    fitting(rt, b, code)?;
     again(rt, b)
 }

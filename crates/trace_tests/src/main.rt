@@ -3,13 +3,15 @@
 #![tactic(auto)]
 
 mod buffer;
+mod code;
 mod lists;
 mod loads;
 mod show;
 
-ghost use Rattle.std.specs.Prelude.{◌≤◌, ◌<◌};
+ghost use Rattle.std.specs.Prelude.{◌≤◌};
 
 use buffer::Buffer;
+use code::Code;
 use show::Answer;
 use std::io;
 
@@ -89,34 +91,30 @@ fn trailers(rt: &impl Print) -> io::Result<()> {
 }
 
 // Refusal 13: slot 1 is written.
-fn large_numbers(rt: &impl Print, w: Buffer, steps: u64) -> io::Result<()> {
-    w.put(rt, 1, steps, 4096)?;
-    w.put(rt, 1, steps, 0)?;
+fn large_numbers(rt: &impl Print, w: Buffer, code: Code) -> io::Result<()> {
+    w.put(rt, 1, code.steps, 4096)?;
+    w.put(rt, 1, code.steps, 0)?;
     w.put(rt, 1, 0, 4096)?;
     w.put(rt, 1, u64::MAX, u64::MAX)?;
     w.read(rt, 1)
 }
 
 // Refusal 12: slot 1 is written.
-fn positions(rt: &impl Print, w: Buffer, width: u64) -> io::Result<()>
-    requires { 0 < width }
-{
-    w.flip(rt, 1, width - 1)?;
-    w.flip(rt, 1, width)?;
-    w.mark(rt, 1, width - 1)?;
-    w.mark(rt, 1, width)?;
+fn positions(rt: &impl Print, w: Buffer, code: Code) -> io::Result<()> {
+    w.flip(rt, 1, code.width - 1)?;
+    w.flip(rt, 1, code.width)?;
+    w.mark(rt, 1, code.width - 1)?;
+    w.mark(rt, 1, code.width)?;
     w.flip(rt, 1, u64::MAX)?;
     Ok(())
 }
 
 // Refusal 14: slot 1 is written.
-fn counts(rt: &impl Print, w: Buffer, seed: u32, width: u64) -> io::Result<()>
-    requires { width ≤ 40 }
-{
+fn counts(rt: &impl Print, w: Buffer, seed: u32, code: Code) -> io::Result<()> {
     w.load(rt, 1, seed, 0)?;
     w.load(rt, 1, seed, 1)?;
-    w.load(rt, 1, seed, width)?;
-    w.load(rt, 1, seed, width + 1)?;
+    w.load(rt, 1, seed, code.width)?;
+    w.load(rt, 1, seed, code.width + 1)?;
     w.load(rt, 1, seed, u64::MAX)?;
     Ok(())
 }
@@ -132,41 +130,33 @@ fn load_twice(rt: &impl Print, marked: Buffer, count: u64) -> io::Result<()> {
 }
 
 // Loads under marks, which stay: slot 1 is written.
-fn loads_under_marks(rt: &impl Print, w: Buffer, width: u64) -> io::Result<()>
-    requires { 0 < width }
-{
-    let marked = w.mark(rt, 1, 0)?.mark(rt, 1, width - 1)?;
+fn loads_under_marks(rt: &impl Print, w: Buffer, code: Code) -> io::Result<()> {
+    let marked = w.mark(rt, 1, 0)?.mark(rt, 1, code.width - 1)?;
     marked.show_last(rt)?;
     load_twice(rt, marked, 3)?;
-    load_twice(rt, marked, width)
+    load_twice(rt, marked, code.width)
 }
 
 // Refusal 10: slot 1, which begins at byte 45, has another state, or is blank and not zero.
-fn bad_slots(rt: &impl Print, w: Buffer, width: u64) -> io::Result<()>
-    requires { width ≤ 40 }
-{
-    every_call(rt, w.with(45, 2), 1, width, width + 1)?;
-    every_call(rt, w.with(45, 0), 1, width, width + 1)
+fn bad_slots(rt: &impl Print, w: Buffer, code: Code) -> io::Result<()> {
+    every_call(rt, w.with(45, 2), 1, code.width, code.width + 1)?;
+    every_call(rt, w.with(45, 0), 1, code.width, code.width + 1)
 }
 
 // Refusals 9 to 14, each also where later ones apply.
-fn slots(rt: &impl Print, code: u64, width: u64, steps: u64) -> io::Result<()>
-    requires some_width { 0 < width }
-    requires small_width { width ≤ 40 }
-    requires some_steps { 0 < steps }
-{
-    let b = Buffer::filled(255).make(rt, code, 2)?;
+fn slots(rt: &impl Print, code: Code) -> io::Result<()> {
+    let b = Buffer::filled(255).make(rt, code.number, 2)?;
     every_call(rt, b, 2, u64::MAX, u64::MAX)?;
     every_call(rt, b, u64::MAX, 0, 1)?;
-    every_call(rt, b, 1, width, width + 1)?;
+    every_call(rt, b, 1, code.width, code.width + 1)?;
     every_call(rt, b.with(55, 1), 1, 0, 1)?;
-    let w = b.put(rt, 1, steps - 1, 4095)?;
-    large_numbers(rt, w, steps)?;
-    positions(rt, w, width)?;
-    counts(rt, w, 0, width)?;
-    counts(rt, w, u32::MAX, width)?;
-    loads_under_marks(rt, w, width)?;
-    bad_slots(rt, w, width)
+    let w = b.put(rt, 1, code.steps - 1, 4095)?;
+    large_numbers(rt, w, code)?;
+    positions(rt, w, code)?;
+    counts(rt, w, 0, code)?;
+    counts(rt, w, u32::MAX, code)?;
+    loads_under_marks(rt, w, code)?;
+    bad_slots(rt, w, code)
 }
 
 // Each unused bit of word and marks, where there are any: slot 0 begins at byte 45, its word at 46, its marks at 51.
@@ -244,10 +234,9 @@ fn main(rt: HostRuntime) -> io::Result<()> {
     makings(&rt)?;
     large_makings(&rt)?;
     trailers(&rt)?;
-    slots(&rt, 1, 36, 128)?;
-    slots(&rt, 2, 36, 128)?;
-    slots(&rt, 3, 40, 1024)?;
-    slots(&rt, 4, 40, 1024)?;
+    for number in 1..=4 {
+        slots(&rt, Code::new(number))?;
+    }
     for code in 1..=3 {
         unused_bits(&rt, code)?;
     }
@@ -256,8 +245,8 @@ fn main(rt: HostRuntime) -> io::Result<()> {
     }
     surveys(&rt)?;
     loads::play_worked(&rt)?;
-    lists::play_lists(&rt, 1, 128)?;
-    lists::play_lists(&rt, 2, 128)?;
-    lists::play_lists(&rt, 3, 1024)?;
-    lists::play_lists(&rt, 4, 1024)
+    for number in 1..=4 {
+        lists::play_lists(&rt, Code::new(number))?;
+    }
+    Ok(())
 }

@@ -6,7 +6,8 @@ ghost use Rattle.std.specs.Prelude.{◌≤◌};
 use codes::Code;
 use std::io;
 
-// The columns of a code's words, a hexadecimal digit each.
+// The columns of a code's words, a hexadecimal digit each. It stands in each test program, which takes none of the library's numbers: a crate for it would
+// be longer.
 fn columns(code: u64) -> usize
     ensures { result ≤ 10 }
 {

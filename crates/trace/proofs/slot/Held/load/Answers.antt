@@ -3,7 +3,7 @@ use Rattle.codes.specs.Codes.{projection}
 use Rattle.trace.proofs.Changes.{load_changed}
 use Rattle.trace.proofs.slot.Held.load.Goals as goal
 
-pub returns-else-width-count : goal.returns-else-width-count
-returns-else-width-count c =
+pub returns : goal.returns
+returns c =
     let width = c.width-width.ensures in
-    load_changed (projection c.args.self.code) _ _ _ _ _ _ _ c.in-Written.is (rw width at c.if-width-count.false) (rw width at c.draw_all-load.ensures)
+    load_changed (projection c.args.self.code) _ _ _ _ _ _ _ c.in_ok-word.ensures (rw width at c.if-width-count.false) (rw width at c.draw_all-load.ensures)
