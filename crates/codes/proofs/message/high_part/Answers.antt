@@ -2,11 +2,9 @@
 use Rattle.std.proofs.Common.{◌≡◌, ◌+◌, ◌*◌, false, cond, get_or, sym, ◌∙◌, add-one, arith}
 use Rattle.symbols.specs.Symbol.{symbol_number}
 use Rattle.symbols.specs.Column.{value, column_of}
-use Rattle.codes.specs.Digits.{symbols}
 use Rattle.codes.specs.Codes.{projection}
-use Rattle.codes.proofs.Horner.{followed_none}
 use Rattle.codes.proofs.Codes.{size_le, bits_le, systematic}
-use Rattle.codes.proofs.Readings.{read_value, no_value, high_so_far}
+use Rattle.codes.proofs.Readings.{read_value, high_so_far}
 use Rattle.codes.proofs.message.high_part.Goals as goal
 use Rattle.codes.proofs.message.high_part.Goals.{then-is_free, else-is_free}
 
@@ -39,10 +37,3 @@ loop-i-preserved c =
       | else-is_free w ↦ rw (w.number-is, ← c.is_free.ensures, w.if-is_free.false)
     ] in
     rw (next, add-one l.i) (sym (read_value π (systematic a.code) a.columns (omega (arith, size_le a.code)) l.i l.number) ∙ l.invariant)
-
-pub returns : goal.returns
-returns c =
-    let a = c.args in
-    let l = c.loop-i in
-    let none = no_value (projection a.code) (systematic a.code) a.columns (omega (arith, size_le a.code)) l.i (omega (arith, size_le a.code)) in
-    sym (followed_none symbols l.number) ∙ (rw (none) at l.invariant)

@@ -1,5 +1,5 @@
 -- `codes::word::pack` meets its contract.
-use Rattle.std.proofs.Common.{◌≡◌, ℕ, suc, ◌^◌, ◌<◌, List, [], map, length, get_or, take, drop, sym, ap, ◌∙◌, add-one, arith, drop_of_length-le, drop-cons, length-take-le}
+use Rattle.std.proofs.Common.{◌≡◌, ℕ, suc, ◌^◌, ◌<◌, List, map, length, get_or, take, drop, add-one, arith, drop-cons, length-take-le}
 use lib.ListN.{length-map}
 use Rattle.symbols.specs.Column.{column_of}
 use Rattle.codes.specs.declared.code.Code.{Code}
@@ -8,7 +8,7 @@ use Rattle.codes.specs.Projection.{size}
 use Rattle.codes.specs.Word.{word_number}
 use Rattle.codes.specs.Codes.{projection}
 use Rattle.codes.proofs.Digits.{columns_fit}
-use Rattle.codes.proofs.Horner.{followed, followed_next, followed_none, followed_le}
+use Rattle.codes.proofs.Horner.{followed, followed_next, followed_le}
 use Rattle.codes.proofs.Codes.{size_le}
 use Rattle.codes.proofs.Messages.{word_below}
 use Rattle.codes.proofs.word.pack.Goals as goal
@@ -44,11 +44,3 @@ loop-column-preserved c =
     let x = get_or items i 0 in
     rw (add-one i, c.from.ensures, ← columns_fit.there x, ← followed_next columns l.number (column_of x) (map column_of (drop (suc i) items)))
     (rw (drop-cons items i 0 c.loop-column-test.true) at l.invariant)
-
-pub returns : goal.returns
-returns c =
-    let l = c.loop-column in
-    let none : drop l.column-index (take c.columns.result c.args.columns) ≡ [] =
-    drop_of_length-le (take c.columns.result c.args.columns) {i = l.column-index} c.loop-column-test.false in
-    sym (followed_none columns l.number) ∙ (rw (none) at l.invariant)
-    ∙ ap (λ m. word_number (map column_of (take m c.args.columns))) c.columns.ensures

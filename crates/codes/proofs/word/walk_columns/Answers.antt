@@ -4,13 +4,8 @@ use Rattle.codes.specs.Projection.{size}
 use Rattle.codes.specs.Codes.{projection}
 use Rattle.codes.specs.ContractsOfWalk.{held, Collected}
 use Rattle.codes.proofs.Codes.{size_le}
-use Rattle.codes.proofs.Walks.{walk_start, parities_lt, length_held, held_at}
+use Rattle.codes.proofs.Walks.{parities_lt, length_held, held_at}
 use Rattle.codes.proofs.word.walk_columns.Goals as goal
-
-pub loop-i-init : goal.loop-i-init
-loop-i-init c =
-    let a = c.args in
-    walk_start (projection a.code) a.columns (omega (arith, size_le a.code)) 10 (size_le a.code)
 
 pub with_column-walk-requires : goal.with_column-walk-requires
 with_column-walk-requires c =

@@ -1,16 +1,6 @@
 -- An item more is written, and none is left out.
-use Rattle.std.proofs.Common.{arith}
-use Rattle.script.proofs.Walks.{writing_first, writing_next, writing_none, writing_end}
+use Rattle.script.proofs.Walks.{writing_next, writing_none, writing_end}
 use Rattle.script.proofs.items.write.Goals as goal
-
-pub loop-item-init : goal.loop-item-init
-loop-item-init g c = λ all are fit. writing_first g.I.Iterator.next_gives all _ _ (rw c.into_iter-item-iterator.ensures.into_iter_gives are.each)
-
-pub bounds-buffer-i : goal.bounds-buffer-i
-bounds-buffer-i g c =
-    let all = c.requires.fit in
-    let next = writing_next _ all.0 _ c.loop-item.item-iterator c.next.new.self _ _ c.in-Some-item.x c.in-Some.item (c.loop-item.invariant all.0 all.1 all.2) c.in-Some.ensures.steps c.in-Some-item.is all.2 in
-    omega (arith, next.0, all.2)
 
 pub loop-item-preserved : goal.loop-item-preserved
 loop-item-preserved g c =

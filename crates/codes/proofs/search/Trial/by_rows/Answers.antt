@@ -1,12 +1,9 @@
 -- A row that was tried finds nothing either; and what the search solves with a row inverted is solved.
 use Rattle.std.specs.Prelude.{None, Some}
-use Rattle.std.proofs.Common.{arith, below_more}
+use Rattle.std.proofs.Common.{arith}
 use Rattle.codes.proofs.Searches.{searchable}
 use Rattle.codes.proofs.Seeking.{found_by_row, none_by_row}
 use Rattle.codes.proofs.search.Trial.by_rows.Goals as goal
-
-pub loop-row-preserved : goal.loop-row-preserved
-loop-row-preserved g c = below_more _ _ c.loop-row.invariant (rw c.with_row.ensures at c.in_default.ensures)
 
 pub returns-in-Some : goal.returns-in-Some
 returns-in-Some g c js k solves =

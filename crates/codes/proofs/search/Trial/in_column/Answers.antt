@@ -1,7 +1,6 @@
 -- With the top row off it is row 0, which adds nothing to the syndrome, or none; else it is the row whose multiple of the column is the syndrome, or
 -- none.
 use Rattle.std.proofs.Common.{◌∙◌, arith}
-use Rattle.codes.proofs.Codes.{size_le}
 use Rattle.codes.proofs.Searches.{searchable}
 use Rattle.codes.proofs.Seeking.{last_top, last_off, last_row, last_others}
 use Rattle.codes.proofs.search.Trial.in_column.Goals as goal
@@ -11,9 +10,6 @@ returns-then-self-eq0 c = rw c.inverted.ensures (last_top (searchable c.args.sel
 
 pub returns-then-self : goal.returns-then-self
 returns-then-self c = last_off (searchable c.args.self.code) c.if-self.true c.if-self-eq0.false
-
-pub multiples-scales-requires : goal.multiples-scales-requires
-multiples-scales-requires c = omega (arith, size_le c.args.self.code)
 
 pub returns-then-self-multiple : goal.returns-then-self-multiple
 returns-then-self-multiple c =
