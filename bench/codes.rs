@@ -182,14 +182,12 @@ impl Code {
         (1 << self.columns) - 1
     }
 
-    /// One walk over the columns.
+    /// One walk over ten columns, the last of which is zero in a word of nine: a loop of a constant number of rounds is quicker.
     fn project(&self, word: u64) -> Projection {
-        let mut columns = [0; COLUMNS];
-        for c in 0..self.columns {
-            columns[c] = self.column(word, c);
-        }
+        let aligned = word << (4 * (COLUMNS - self.columns));
+        let columns: [u8; COLUMNS] = from_fn(|c| (aligned >> (4 * (COLUMNS - 1 - c)) & 15) as u8);
         let mut sum = Projection { syndrome: 0, parities: 0, top: 0 };
-        for c in 0..self.columns {
+        for c in 0..COLUMNS {
             sum.syndrome ^= self.scaled[c][value(columns[c]) as usize];
             sum.parities |= (parity(columns[c]) as u32) << c;
             sum.top ^= top(columns[c]);

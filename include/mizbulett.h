@@ -32,11 +32,11 @@
  * Figures of the archive that `rt lib --cpu=x86-64` writes in crates/mizbulett, with rattle-kit-13f:
  *   machine   x86-64 with the System V calling convention (ELF); position independent; SSE registers and the red zone are used.
  *             Without --cpu it is written for x86-64-v2, and needs SSE4.1 and POPCNT
- *   size      18.9 kB, of which 10.6 kB are code and constants (ls, size)
+ *   size      19.3 kB, of which 12.1 kB are code and constants (ls, size)
  *   memory    no heap, and no data that is written: .data and .bss have 0 bytes (size, nm)
  *   symbols   the twelve functions below are defined, and memset is needed (nm -g)
- *   stack     700 bytes at most, beside what memset takes: of a painted stack no call used more, on traces of 4,000 damaged
- *             slots. The most is a survey's, with mending and its walk below it. No function calls itself
+ *   stack     600 bytes at most, beside what memset takes: of a painted stack no call used more, on traces of 4,000 damaged
+ *             slots. The most is a survey's, with mending below it. No function calls itself
  * They are measured, not proved: no theorem bounds the stack. And nothing but the tests (examples/run, bench/run) holds this
  * header, mizbulett.rs and examples/trace.py to the source: link what was built from one commit.
  */

@@ -72,15 +72,9 @@ module _ (π : Projection) (w m : ℕ) where
       go (inl s) = (s.at, omega (arith, s.high), cc s.gives, s.close)
       go (inr s) = let z : ◌≡◌ {A = ℕ} 0 1 = cc s.gives in absurd (omega arith)
 
-  -- within three positions of a filling lies a codeword whose sum is at most 7, or no codeword
-  pub fitting_near : (f x : ℕ) → Within π (is_codeword π) 3 f x → sum π w m x ≤ 7 → NearWithin π w m 3 f x
-  fitting_near f x a h = record { is = record { fits = a.fits; codeword = a.passes; near = sum_near π w m x h }; close = a.close }
-
+  -- what is near and within three positions is a codeword within three
   within_of : (f y : ℕ) → NearWithin π w m 3 f y → Within π (is_codeword π) 3 f y
   within_of f y b = record { fits = b.is.fits; passes = b.is.codeword; close = b.close }
-
-  pub fitting_none : (f : ℕ) → ((x : ℕ) → Within π (is_codeword π) 3 f x → ⊥) → (y : ℕ) → NearWithin π w m 3 f y → ⊥
-  fitting_none f empty y b = empty y (within_of f y b)
 
   module _ (sys : Systematic π) (far : Apart π) where
     of_message : (i : ℕ) → is_near π w m (encode π i) ≡ true → Near π w m (encode π i)

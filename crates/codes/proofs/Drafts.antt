@@ -68,11 +68,6 @@ module _ (π : Projection) (sys : Systematic π) (n s : ℕ) where
   abbrev x : ℕ
   x = n / 2 ^ top_bits π
 
-  pub draft_all : draft_from π n s 0 (wanted π.rule (message_of π n).parity) ≡ drafted π n s
-  draft_all =
-      let whole : top_bits π - 0 ≡ top_bits π = omega arith in
-      rw (sys.others, whole)
-
   pub draft_next : (i : ℕ) (t : Bool) → i < top_bits π →
       draft_from π n s i t ≡ draft_at π n s i (has_bit (top_bits π - 1 - i) n) ∷ draft_from π n s (suc i) (has_bit (top_bits π - 1 - i) n ⊻ t)
   draft_next i t h =

@@ -1,18 +1,14 @@
--- What the layers above may cite: the limits of each code, its number, word calls whose numbers fit, and what mending finds.
+-- What the layers above may cite: the limits of each code, its number, and what mending finds.
 -- A message's codeword with positions f inverted is a word in which that codeword is wrong just where f is not marked.
-use Rattle.std.specs.Prelude.{Ok, Err}
-use Rattle.std.proofs.Common.{◌≡◌, ℕ, ◌+◌, ◌*◌, ◌^◌, ◌<◌, ◌≤◌, Bool, true, false, cond, leb, ◌↔◌, [], ◌∷◌, sym, refl, arith}
+use Rattle.std.proofs.Common.{◌≡◌, ℕ, ◌+◌, ◌*◌, ◌^◌, ◌<◌, ◌≤◌, true, leb, ◌↔◌, sym, refl, arith}
 use mathlib.Core.Option.{Option, none, some}
 use lib.Bits.{bit_xor}
-use borrow.Author.Tests.{lt-leb}
 use Rattle.codes.specs.declared.code.Code.{Code}
 use Rattle.codes.specs.declared.code.Code.TheVariants.{O36, E36, O40, E40}
 use Rattle.codes.specs.declared.answer.Correction.{Correction}
-use Rattle.codes.specs.declared.answer.Refusal.{Refusal}
-use Rattle.codes.specs.declared.answer.Refusal.TheVariants.{UnknownCode}
 use Rattle.codes.specs.Answer.{accepted, refused}
-use Rattle.codes.specs.Projection.{Projection, width, message_bits}
-use Rattle.codes.specs.Codes.{projection, is_code, code_of, code_found, step_limit, encoding, correction_values, correction_answer}
+use Rattle.codes.specs.Projection.{width, message_bits}
+use Rattle.codes.specs.Codes.{projection, is_code, step_limit, correction_values, correction_answer}
 use Rattle.codes.specs.Word.{word}
 use Rattle.codes.specs.Message.{encode}
 use Rattle.codes.specs.Correction.{outside, ones, Near, correction_of, correct}
@@ -90,26 +86,8 @@ code_iff n = and_iff (leb 1 n) (leb n 4) (leb_iff 1 n) (leb_iff n 4)
 pub code_lt : (n : ℕ) → is_code n ≡ true → n < 256
 code_lt n e = let few = ((code_iff n).0 e).1 in omega arith
 
-pub code_known : (n : ℕ) (c : Code) → code_found n ≡ Ok c → (is_code n ≡ true) × (c ≡ code_of n)
-code_known n c e = go (is_code n) refl e
-  where
-    go : (t : Bool) → is_code n ≡ t → cond t (Ok (code_of n)) (Err UnknownCode) ≡ Ok c → (is_code n ≡ true) × (c ≡ code_of n)
-    go true t e = (t, cc)
-    go false t e = absurd (cc)
+-- ---- what mending found, by its answer
 
-pub code_unknown : (n : ℕ) (r : Refusal) → code_found n ≡ Err r → is_code n ≡ false
-code_unknown n r e = go (is_code n) refl e
-  where
-    go : (t : Bool) → is_code n ≡ t → cond t (Ok (code_of n)) (Err UnknownCode) ≡ Err r → is_code n ≡ false
-    go true t e = absurd (cc)
-    go false t e = t
-
--- ---- word calls whose numbers fit
-
-pub encoding_fits : (π : Projection) (n : ℕ) → n < 2 ^ message_bits π → encoding π n ≡ accepted (encode π n ∷ [])
-encoding_fits π n h = simp (lt-leb _ _ h)
-
--- what mending found, by its answer
 pub answer_near : (x : Option Correction) (c : Correction) → accepted (correction_values c) ≡ correction_answer x → x ≡ some c
 answer_near (some x) c e =
     let codeword : x.codeword ≡ c.codeword = cc in

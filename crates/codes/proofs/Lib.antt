@@ -3,7 +3,7 @@
 -- ---- what the layers above may cite
 -- the claims of specs/Claims.antt
 pub mod Claims
--- limits, word calls whose numbers fit, and mending by its messages
+-- limits, a code's number, and mending by its messages
 pub mod Laws
 -- what an answer says of the rows of refusals before it
 pub mod Rows

@@ -7,10 +7,13 @@ use Rattle.std.proofs.lemmas.Bool.{cases_lt}
 use lib.ListN.{get_or-eq_default, get_or-map, length-map}
 use Rattle.symbols.specs.Symbol.{Symbol, symbol_number}
 use Rattle.symbols.specs.Column.{Column, value, top, one, column_of}
+use Rattle.codes.specs.declared.code.Code.{Code}
 use Rattle.codes.specs.Digits.{bits, symbols}
 use Rattle.codes.specs.Projection.{Projection, size, top_bits, message_bits}
-use Rattle.codes.specs.Message.{chosen, first_parity, but_last, message_in, message_number}
+use Rattle.codes.specs.Message.{chosen, but_last, message_in, message_number}
+use Rattle.codes.specs.Codes.{projection}
 use Rattle.codes.specs.ContractsOfWalk.{held, high_part}
+use Rattle.codes.proofs.Codes.{size_le, bits_le, systematic}
 use Rattle.codes.proofs.Digits.{symbols_fit, bits_fit}
 use Rattle.codes.proofs.Horner.{followed, followed_next, followed_le}
 use Rattle.codes.proofs.Placing.{Systematic}
@@ -37,11 +40,6 @@ module _ (π : Projection) (sys : Systematic π) (a : List ℕ) (room : size π 
 
   long : length (held π a) ≡ size π
   long = length_held π a room
-
-  -- before the first column
-  pub read_start : (odd : Bool) → odd ≡ first_parity (held π a) →
-      followed symbols (one odd) (chosen π.free (map value (held π a))) ≡ high_part π (held π a)
-  read_start odd e = rw (e, (sized π sys cs long).values)
 
   -- behind the last column no value is left
   pub no_value : (i : ℕ) → size π ≤ i → chosen (drop i π.free) (map value (drop i (held π a))) ≡ []
@@ -94,15 +92,20 @@ module _ (π : Projection) (sys : Systematic π) (a : List ℕ) (room : size π 
   high_bounded =
       lt_of_le_of_lt (rw (read_tops) at (followed_le bits bits_fit (high_part π cs) (but_last (map top cs)))) message_bounded
 
-  -- and so is the number so far
-  pub high_so_far : {k : ℕ} → message_bits π ≤ k → (i n : ℕ) →
-      followed symbols n (chosen (drop i π.free) (map value (drop i (held π a)))) ≡ high_part π (held π a) → n < 2 ^ k
-  high_so_far b i n e =
-      lt_of_le_of_lt (rw (e) at (followed_le symbols symbols_fit n (chosen (drop i π.free) (map value (drop i cs)))))
-      (lt_of_lt_of_le high_bounded (pow_mono b))
+-- and so is the number so far, of an array that has room for every code
+module _ (code : Code) (a : List ℕ) (room : length a ≡ 10) (i n : ℕ) where
+  abbrev δ : Projection
+  δ = projection code
 
-  pub message_so_far : {k : ℕ} → message_bits π ≤ k → (i n : ℕ) →
-      followed bits n (drop i (but_last (map top (held π a)))) ≡ message_number π (message_in π (held π a)) → n < 2 ^ k
-  message_so_far b i n e =
-      lt_of_le_of_lt (rw (e) at (followed_le bits bits_fit n (drop i (but_last (map top cs)))))
-      (lt_of_lt_of_le message_bounded (pow_mono b))
+  holds : size δ ≤ length a
+  holds = omega (arith, size_le code)
+
+  pub high_so_far : followed symbols n (chosen (drop i δ.free) (map value (drop i (held δ a)))) ≡ high_part δ (held δ a) → n < 2 ^ 22
+  high_so_far e =
+      lt_of_le_of_lt (rw (e) at (followed_le symbols symbols_fit n (chosen (drop i δ.free) (map value (drop i (held δ a))))))
+      (lt_of_lt_of_le (high_bounded δ (systematic code) a holds) (pow_mono (bits_le code)))
+
+  pub message_so_far : followed bits n (drop i (but_last (map top (held δ a)))) ≡ message_number δ (message_in δ (held δ a)) → n < 2 ^ 22
+  message_so_far e =
+      lt_of_le_of_lt (rw (e) at (followed_le bits bits_fit n (drop i (but_last (map top (held δ a))))))
+      (lt_of_lt_of_le (message_bounded δ (systematic code) a holds) (pow_mono (bits_le code)))

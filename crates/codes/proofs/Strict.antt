@@ -2,26 +2,24 @@
 -- The syndrome is zero just where its number is 0. All columns have a parity just where none lacks it, which is where the mask of those that do
 -- is 0. Columns of one parity have the first one's, and its parity is the lowest bit of the parities; so a word is a codeword just where it is
 -- one of that parity, and what the walk hands on decides each part of that.
-use Rattle.std.proofs.Common.{◌≡◌, ℕ, suc, ◌+◌, ◌*◌, ◌^◌, ◌<◌, ◌≤◌, Bool, true, false, not, ◌&&◌, ◌||◌, eqb, List, [], ◌∷◌, map, length, sym, refl, ◌∙◌, arith, eq-eqb, ne_eqb, eqb-true}
+use Rattle.std.proofs.Common.{◌≡◌, ℕ, ◌+◌, ◌*◌, ◌<◌, Bool, true, false, not, ◌&&◌, ◌||◌, eqb, List, [], ◌∷◌, map, length, sym, refl, ◌∙◌, arith, eq-eqb, ne_eqb, eqb-true}
 use mathlib.Core.Bool.{beq, Bool-discrete, false≢true, or-false}
 use borrow.Author.Tests.{eqb-false}
 use Rattle.symbols.specs.Symbol.{◌⊻◌, Symbol, has_bit}
 use Rattle.symbols.specs.Column.{Column, parity, one}
 use Rattle.symbols.proofs.Every.{bits, ◌⊗◌, law}
-use Rattle.symbols.proofs.Claims.{numbers}
 use Rattle.codes.specs.declared.code.Code.{Code}
 use Rattle.codes.specs.declared.word.Walk.{Walk}
-use Rattle.codes.specs.Digits.{symbols, digits, number_of, mask}
+use Rattle.codes.specs.Digits.{symbols, number_of, mask}
 use Rattle.codes.specs.Vector.{is_zero_v}
-use Rattle.codes.specs.Projection.{Projection, wanted, count, size}
+use Rattle.codes.specs.Projection.{Projection, wanted}
 use Rattle.codes.specs.Word.{word, syndrome_of, all_parity, top_row, is_codeword_of, is_codeword}
 use Rattle.codes.specs.Message.{first_parity}
 use Rattle.codes.specs.Codes.{projection}
 use Rattle.codes.specs.Claims.{WalkCollects}
-use Rattle.codes.specs.ContractsOfWalk.{odds, Walked}
-use Rattle.codes.proofs.Digits.{symbols_fit, digits_again, number_again}
+use Rattle.codes.proofs.Digits.{symbols_fit, digits_again}
 use Rattle.codes.proofs.Vectors.{zeros_zero}
-use Rattle.codes.proofs.Words.{length_word, wanted_even, count_cons}
+use Rattle.codes.proofs.Words.{length_word}
 use Rattle.codes.proofs.Sums.{digits_zero, zero_number}
 use Rattle.codes.proofs.Masks.{mask_bit}
 use Rattle.codes.proofs.Codes.{systematic}
@@ -86,54 +84,3 @@ walked_codeword c w walk k =
     let some : 0 < length cs = omega (arith, length_word π w, (systematic c).some) in
     of_first π cs some
     ∙ rw (k.syndrome, k.top, k.parities, first_parity_lem cs, zero_by_number (syndrome_of π cs), parity_by_mask p cs)
-
--- ---- the same for any code, by the number of the odd columns
-
-odds_le : (cs : List Column) → odds cs ≤ length cs
-odds_le [] = omega arith
-odds_le (c ∷ cs) = omega (arith, odds_le cs, numbers.bits.small (parity c), count_cons (parity c) (map parity cs))
-
--- a packed vector is zero just where its number is
-packed_zero : (r s : ℕ) → s < 4 ^ r → is_zero_v (digits symbols r s) ≡ eqb s 0
-packed_zero r s h = go (is_zero_v (digits symbols r s)) refl
-  where
-    go : (b : Bool) → is_zero_v (digits symbols r s) ≡ b → b ≡ eqb s 0
-    go true e = sym (eq-eqb s 0 (sym (number_again symbols symbols_fit r s h) ∙ zero_number (digits symbols r s) e))
-    go false e = sym (ne_eqb s 0 (λ (z : s ≡ 0). false≢true (sym e ∙ rw (z, digits_zero r) (zeros_zero r))))
-
--- all columns are even, and all are odd, by the number of odd ones
-all_even : (cs : List Column) → all_parity false cs ≡ eqb (odds cs) 0
-all_even [] = refl
-all_even (c ∷ cs) = go (parity c) (all_even cs)
-  where
-    go : (b : Bool) → all_parity false cs ≡ eqb (odds cs) 0 → beq b false && all_parity false cs ≡ eqb (count (b ∷ map parity cs)) 0
-    go true e = sym (ne_eqb (suc (odds cs)) 0 (λ (z : suc (odds cs) ≡ 0). omega arith))
-    go false e = e
-
-all_odd : (cs : List Column) → all_parity true cs ≡ eqb (odds cs) (length cs)
-all_odd [] = refl
-all_odd (c ∷ cs) = go (parity c) (all_odd cs)
-  where
-    go : (b : Bool) → all_parity true cs ≡ eqb (odds cs) (length cs) →
-        beq b true && all_parity true cs ≡ eqb (count (b ∷ map parity cs)) (suc (length cs))
-    go true e = e ∙ same (eqb (odds cs) (length cs)) refl
-      where
-        same : (b : Bool) → eqb (odds cs) (length cs) ≡ b → eqb (odds cs) (length cs) ≡ eqb (suc (odds cs)) (suc (length cs))
-        same true e = e ∙ sym (eq-eqb (suc (odds cs)) (suc (length cs)) (omega (arith, eqb-true (odds cs) (length cs) e)))
-        same false e =
-            e ∙ sym (ne_eqb (suc (odds cs)) (suc (length cs)) (λ (z : suc (odds cs) ≡ suc (length cs)). eqb-false (odds cs) (length cs) e (omega arith)))
-    go false e = sym (ne_eqb (odds cs) (suc (length cs)) (λ (z : odds cs ≡ suc (length cs)). omega (arith, odds_le cs)))
-
--- whether a word is a codeword, by whether its syndrome is 0, whether all columns are even, whether all are odd, its top row's parity, and the
--- parity that the rule wants of an odd codeword's top row
-abbrev pub codeword_by : Bool → Bool → Bool → Bool → Bool → Bool
-codeword_by z even odd t w = z && (even && beq t false) || z && (odd && beq t w)
-
-pub is_codeword_by : (π : Projection) (cs : List Column) (s : ℕ) (t : Bool) (n : ℕ) → length cs ≡ size π → s < 4 ^ π.rows →
-    Walked π.rows π.matrix cs s t n → is_codeword π cs ≡ codeword_by (eqb s 0) (eqb n 0) (eqb n (size π)) t (wanted π.rule true)
-unfolding is_codeword
-is_codeword_by π cs s t n long h w =
-    let z : is_zero_v (syndrome_of π cs) ≡ eqb s 0 = rw (← w.syndromes) (packed_zero π.rows s h) in
-    let even : all_parity false cs ≡ eqb n 0 = rw w.odd (all_even cs) in
-    let odd : all_parity true cs ≡ eqb n (size π) = rw (w.odd, ← long) (all_odd cs) in
-    rw (z, even, odd, ← w.tops, wanted_even π.rule)

@@ -3,7 +3,7 @@
 -- up what is collected from there on: the parities are a mask, packed vectors add by exclusive or, and the syndrome and the top row's parity are
 -- defined by the first column and the rest. A packed syndrome stays below 4 to the power of the rows, as each multiple does, since that is a
 -- power of two.
-use Rattle.std.proofs.Common.{◌≡◌, ℕ, zero, suc, ◌+◌, ◌*◌, ◌^◌, ◌<◌, ◌≤◌, true, false, not, eqb, List, [], ◌∷◌, map, length, get_or, take, drop, sym, refl, ap, ◌∙◌, arith, drop_of_length-le, length-take-le, drop-cons, get_or-take, eqb-true}
+use Rattle.std.proofs.Common.{◌≡◌, ℕ, zero, suc, ◌+◌, ◌*◌, ◌^◌, ◌<◌, ◌≤◌, true, not, eqb, List, [], ◌∷◌, map, length, get_or, take, drop, sym, ap, ◌∙◌, arith, length-take-le, drop-cons, get_or-take, eqb-true}
 use mathlib.Core.Bool.{beq, and-eq-true_iff}
 use lib.Bits.{bit_xor, xor_lt}
 use lib.ListN.{get_or-map, length-map}
@@ -19,12 +19,11 @@ use Rattle.codes.specs.Word.{word, syndrome, syndrome_of, top_row}
 use Rattle.codes.specs.Codes.{projection}
 use Rattle.codes.specs.Claims.{WalkCollects}
 use Rattle.codes.specs.ContractsOfWalk.{held, Collected, OneMore}
-use Rattle.codes.proofs.Digits.{symbols_fit, digits_again, number_again, number_lt, place_pos, pow_mul}
+use Rattle.codes.proofs.Digits.{symbols_fit, digits_again, number_again, number_lt, pow_mul}
 use Rattle.codes.proofs.Masks.{mask_lt}
 use Rattle.codes.proofs.Vectors.{add_v_comm, shaped, length_scale, length_syndrome}
-use Rattle.codes.proofs.Words.{length_word}
 use Rattle.codes.proofs.Codes.{systematic}
-use Rattle.codes.proofs.Sums.{digits_zero, digits_add}
+use Rattle.codes.proofs.Sums.{digits_add}
 
 -- a column's multiple, packed
 pub multiple_lt : (v : Symbol) (h : List Symbol) → number_of symbols (scale v h) < 4 ^ length h
@@ -87,14 +86,7 @@ module _ (π : Projection) (a : List ℕ) (room : size π ≤ length a) where
   pub held_from : (j : ℕ) → j < size π → drop j (held π a) ≡ column_of (get_or a j 0) ∷ drop (suc j) (held π a)
   held_from j h = rw (drop-cons (held π a) j (column_of 0) (omega (arith, length_held)), held_at j h)
 
-  -- before the walk over it all columns are ahead
-  pub walk_start : (k : ℕ) → size π ≤ k →
-      Collected π.rows (drop k π.matrix) (drop k (held π a)) (record { parities = 0; top = false; syndrome = 0 })
-  walk_start k h =
-      rw (drop_of_length-le π.matrix {i = k} h, drop_of_length-le (held π a) {i = k} (omega (arith, length_held)))
-      (record { parities = refl; tops = refl; syndromes = digits_zero π.rows; bounded = place_pos symbols symbols_fit π.rows })
-
--- what the walk over a word hands on, from what is collected, and back; the parities are as many bits as the code has columns
+-- what the walk over a word hands on, from what is collected, and back
 module _ (c : Code) (w : ℕ) (walk : Walk) where
   abbrev π : Projection
   π = projection c
@@ -120,6 +112,3 @@ module _ (c : Code) (w : ℕ) (walk : Walk) where
               (length_syndrome π.rows π.matrix (systematic c).shape (map value cs)));
           bounded = k.bounded;
         }
-
-    pub parities_below : walk.parities < 2 ^ size (projection c)
-    parities_below = rw (length_word π w) at (parities_lt collected)

@@ -22,16 +22,6 @@ multiple π j v = number_of symbols (scale v (slice_index_or π.matrix j []))
 abbrev pub Multiples : Projection → ℕ → ℕ → Type 0
 Multiples π j n = (v : ℕ) → v < 4 → n / 2 ^ (8 * v) % 256 ≡ multiple π j (symbol_of v)
 
--- the number of odd columns
-abbrev pub odds : List Column → ℕ
-odds cs = count (map parity cs)
-
--- a packed vector, a bit and a number are a word's syndrome, its top row's parity and the number of its odd columns
-pub record Walked (rows : ℕ) (H : List (List Symbol)) (cs : List Column) (s : ℕ) (t : Bool) (n : ℕ) : Type 0 where
-  pub syndromes : digits symbols rows s ≡ syndrome rows H (map value cs)
-  pub tops : t ≡ top_row cs
-  pub odd : n ≡ odds cs
-
 -- a walk's numbers are the parities, the top row's parity and the syndrome of columns cs under the matrix H
 pub record Collected (rows : ℕ) (H : List (List Symbol)) (cs : List Column) (w : Walk) : Type 0 where
   pub parities : w.parities ≡ mask (map parity cs)

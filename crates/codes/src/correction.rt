@@ -39,8 +39,7 @@ impl Marked {
         ones(((codeword ^ self.word) | self.marks) ^ self.marks)
     }
 
-    // The near codeword, if it is within three positions of a filling of the marked bits. A call for each filling is slower than to inline it.
-    #[inline(always)]
+    // The near codeword, if it is within three positions of a filling of the marked bits.
     fn fitting(self, filled: u64) -> Option<u64>
         requires { filled < 2 ^ width (projection self.code) }
         ensures { Sought (NearWithin (projection self.code) self.word self.marks 3 filled) result }
@@ -52,18 +51,20 @@ impl Marked {
         None
     }
 
-    // The near codeword, by either filling. Where nothing is marked the two are the same.
+    // The near codeword, by the marked bits filled with zeros, or else with ones: in one loop, so that the search stands once in the machine code. Where
+    // nothing is marked the two are the same.
     pub(crate) fn near(self) -> Option<u64>
         ensures { Sought (Near (projection self.code) self.word self.marks) result }
     {
         let full = self.word | self.marks;
-        let zeros = full ^ self.marks;
-        if let Some(found) = self.fitting(zeros) {
-            return Some(found);
+        for filled in [full ^ self.marks, full] {
+            if let Some(found) = self.fitting(filled) {
+                return Some(found);
+            }
+            if self.marks == 0 {
+                return None;
+            }
         }
-        if zeros == full {
-            return None;
-        }
-        self.fitting(full)
+        None
     }
 }

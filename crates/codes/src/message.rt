@@ -8,7 +8,7 @@ ghost use Rattle.codes.specs.Message.{message_of, codeword_of, first_parity, mes
 ghost use Rattle.codes.specs.ContractsOfWalk.{held, value_at, drafted, high_part};
 
 use crate::code::Code;
-use crate::word::{ROOM, pack};
+use crate::word::{ROOM, walk_columns};
 
 // Whether a bit of a number is one, counted from the lowest.
 fn has_bit(number: u64, place: u64) -> bool
@@ -70,20 +70,21 @@ impl Draft {
     }
 }
 
-// The columns of a message's codeword: the free values' syndrome is what the other columns must have. It is that of a word, so the draft is packed.
+// The columns of a message's codeword: the free values' syndrome is what the other columns must have.
 pub(crate) fn codeword(code: Code, message: u64) -> [u8; ROOM]
     ensures { held (projection code) result ≡ codeword_of (projection code) (message_of (projection code) message) }
 {
-    let free = Draft {
+    let draft = Draft {
         code,
         message,
         syndrome: 0,
     };
-    let syndrome = code.walk(pack(code, free.columns())).syndrome;
-    Draft { syndrome, ..free }.columns()
+    let syndrome = walk_columns(code, draft.columns()).syndrome;
+    Draft { syndrome, ..draft }.columns()
 }
 
 // The parity of a word's first column and the free values of its columns, highest first.
+#[inline(always)]
 fn high_part(code: Code, odd: bool, columns: [u8; ROOM]) -> u64
     requires { odd ≡ first_parity (held (projection code) columns) }
     ensures { result ≡ high_part (projection code) (held (projection code) columns) }
@@ -98,6 +99,7 @@ fn high_part(code: Code, odd: bool, columns: [u8; ROOM]) -> u64
 }
 
 // The message that a codeword's columns say: behind its high part stand their top bits but the last. Whether the first column is odd is known.
+#[inline(always)]
 pub(crate) fn message_in(code: Code, odd: bool, columns: [u8; ROOM]) -> u64
     requires { odd ≡ first_parity (held (projection code) columns) }
     ensures { result ≡ message_number (projection code) (message_in (projection code) (held (projection code) columns)) }

@@ -50,6 +50,7 @@ impl Trial {
     }
 
     // What is found with a row of a column inverted, by the first row that finds something.
+    #[inline(always)]
     fn by_rows<F: Fn(Trial) -> Option<u64>>(self, column: usize, find: F) -> Option<u64>
         requires column { column < size (projection self.code) }
         requires callable { (row : ℕ) → row < 4 → F.pre find (row_inverted (projection self.code) self column row) }
@@ -115,6 +116,7 @@ impl Trial {
     }
 
     // The codeword two positions away where columns i and j lack its parity.
+    #[inline(always)]
     fn seek_two(self, i: usize, j: usize) -> Option<u64>
         requires { (i < size (projection self.code)) × (j < size (projection self.code)) }
         ensures { Solved (projection self.code) (i ∷ j ∷ []) 2 self result }

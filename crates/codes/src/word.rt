@@ -67,7 +67,8 @@ impl Walk {
 }
 
 // One walk over columns, from the last to the first.
-fn walk_columns(code: Code, columns: [u8; ROOM]) -> Walk
+#[inline(always)]
+pub(crate) fn walk_columns(code: Code, columns: [u8; ROOM]) -> Walk
     ensures { Collected (projection code).rows (projection code).matrix (held (projection code) columns) result }
 {
     let mut walk = Walk {
@@ -79,16 +80,6 @@ fn walk_columns(code: Code, columns: [u8; ROOM]) -> Walk
         walk = walk.with_column(code, i, columns[i]);
     }
     walk
-}
-
-impl Code {
-    // One walk over the columns of a word: what mending and strict reading know of its parities, its top row and its syndrome. Bits above the code's
-    // width are left out.
-    pub fn walk(self, word: u64) -> Walk
-        ensures { WalkCollects self word result }
-    {
-        walk_columns(self, unpack(self, word))
-    }
 }
 
 // The columns that lack a parity, by the parities of all.
@@ -107,4 +98,15 @@ pub(crate) fn is_first_odd(parities: u64) -> bool
     ensures { result ≡ has_bit 0 parities }
 {
     parities % 2 == 1
+}
+
+impl Code {
+    // One walk over the columns of a word: what mending and strict reading know of its parities, its top row and its syndrome. Bits above the code's
+    // width are left out.
+    #[inline(always)]
+    pub fn walk(self, word: u64) -> Walk
+        ensures { WalkCollects self word result }
+    {
+        walk_columns(self, unpack(self, word))
+    }
 }

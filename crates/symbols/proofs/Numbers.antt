@@ -19,7 +19,7 @@ bit_mod k j n = rw (field n (j + 1) k, mod-mod-pow (n / 2 ^ k) j 1)
 pub symbol_mod : (n : ℕ) → symbol_of (n % 4) ≡ symbol_of n
 symbol_mod n = ap₂ symbol (bit_mod 1 0 n) (bit_mod 0 1 n)
 
-column_mod : (n : ℕ) → column_of (n % 16) ≡ column_of n
+pub column_mod : (n : ℕ) → column_of (n % 16) ≡ column_of n
 column_mod n = cc (bit_mod 3 0 n, bit_mod 2 1 n, bit_mod 1 2 n, bit_mod 0 3 n)
 
 -- a type is counted by its values' numbers where these are below the base and lead back, and a number's remainder stands for what it does

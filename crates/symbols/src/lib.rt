@@ -1,7 +1,7 @@
 // The four symbols and the columns of four bits that the codes are made of.
 //
 // A symbol is a number modulo 4 and a column a number modulo 16, top bit highest, so that every function
-// answers every number. Each is a shift of a table that is packed into one number, or plain arithmetic.
+// answers every number. Each looks its answer up in a table, which but for `VALUES` is packed into one number, or is plain arithmetic.
 #![tactic(auto)]
 
 ghost use Rattle.std.specs.Prelude.{◌≡◌};
@@ -11,11 +11,10 @@ ghost use Rattle.symbols.specs.Column.{value, parity, top, one, weight, column_o
 // The products of two symbols: two bits for each pair, at 4 times the first plus the second.
 const PRODUCTS: u32 = 0x9c78_e400;
 
-// The sixteen columns' values (two bits each), parities (one bit) and weights (three bits).
-const VALUES: u32 = 0x396c_396c;
+// The sixteen columns' values. The walk over a word looks one up for each column, and a shift of a packed number is slower there.
+const VALUES: [u8; 16] = [0, 3, 2, 1, 1, 2, 3, 0, 0, 3, 2, 1, 1, 2, 3, 0];
 
-const PARITIES: u16 = 0x6996;
-
+// The sixteen columns' weights: three bits each.
 const WEIGHTS: u64 = 0x8da6_9169_1448;
 
 // The columns by parity, value and top bit: four bits each, at 8 times the parity plus twice the value plus the top bit.
@@ -39,14 +38,14 @@ pub fn multiply(x: u8, y: u8) -> u8
 pub fn value(column: u8) -> u8
     ensures { result ≡ symbol_number (value (column_of column)) }
 {
-    ((VALUES >> (2 * (column % 16))) % 4) as u8
+    VALUES[usize::from(column % 16)]
 }
 
 // Whether a column has an odd number of ones.
 pub fn parity(column: u8) -> bool
     ensures { result ≡ parity (column_of column) }
 {
-    (PARITIES >> (column % 16)) % 2 == 1
+    (column % 16).count_ones() % 2 == 1
 }
 
 // A column's top bit.

@@ -4,7 +4,7 @@ use Rattle.std.proofs.Common.{◌≡◌, ℕ, ◌<◌, ◌≤◌, List, [], ◌�
 use lib.Bits.{bit_xor, bit_or}
 use borrow.Author.Tests.{lt-leb}
 use Rattle.std.specs.Prelude.{Result, Ok, Err}
-use Rattle.codes.specs.Answer.{Answer, accepted, refused, Row, Passes, Refuses}
+use Rattle.codes.specs.Answer.{Answer, accepted, refused, Passes, Refuses}
 use Rattle.codes.specs.Projection.{Projection, width}
 use Rattle.codes.specs.Codes.{projection, step_limit}
 use Rattle.trace.specs.declared.layout.Header.{Header}
@@ -70,19 +70,6 @@ load_changes slot seed k = record { rows = λ v. refl; gives = λ v. refl; leave
 
 pub clear_changes : (slot : ℕ) → ChangesSlot (clear slot) slot (λ π c. clear_change)
 clear_changes slot = record { rows = λ v. refl; gives = λ v. refl; leaves = λ b. refl }
-
--- each of them does
-module _ (slot : ℕ) (v : View) where
-  abbrev pub SlotFirst : Call → Type 0
-  SlotFirst call = (rest : List Row) × (refusals call v ≡ no_slot (count_of v) slot ∷ rest)
-
-  pub slot_first : (step reading position seed k : ℕ)
-      → SlotFirst (put slot step reading)
-      × SlotFirst (flip slot position)
-      × SlotFirst (mark slot position)
-      × SlotFirst (load slot seed k)
-      × SlotFirst (clear slot)
-  slot_first step reading position seed k = ((_, refl), (_, refl), (_, refl), (_, refl), (_, refl))
 
 -- a refused call leaves all as it is
 module _ (call : Call) (b : List ℕ) (k : ℕ) where

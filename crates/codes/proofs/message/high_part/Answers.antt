@@ -3,28 +3,16 @@ use Rattle.std.proofs.Common.{◌≡◌, ◌+◌, ◌*◌, false, cond, get_or, 
 use Rattle.symbols.specs.Symbol.{symbol_number}
 use Rattle.symbols.specs.Column.{value, column_of}
 use Rattle.codes.specs.Codes.{projection}
-use Rattle.codes.proofs.Codes.{size_le, bits_le, systematic}
+use Rattle.codes.proofs.Codes.{size_le, systematic}
 use Rattle.codes.proofs.Readings.{read_value, high_so_far}
 use Rattle.codes.proofs.message.high_part.Goals as goal
 use Rattle.codes.proofs.message.high_part.Goals.{then-is_free, else-is_free}
 
 pub overflow_mul-number : goal.overflow_mul-number
-overflow_mul-number c =
-    let a = c.args in
-    let l = c.loop-i in
-    omega (
-      arith,
-      high_so_far (projection a.code) (systematic a.code) a.columns (omega (arith, size_le a.code)) (bits_le a.code) l.i l.number l.invariant,
-    )
+overflow_mul-number c = omega (arith, high_so_far c.args.code c.args.columns (omega arith) c.loop-i.i c.loop-i.number c.loop-i.invariant)
 
 pub overflow_add-number : goal.overflow_add-number
-overflow_add-number c =
-    let a = c.args in
-    let l = c.loop-i in
-    omega (
-      arith,
-      high_so_far (projection a.code) (systematic a.code) a.columns (omega (arith, size_le a.code)) (bits_le a.code) l.i l.number l.invariant,
-    )
+overflow_add-number c = omega (arith, high_so_far c.args.code c.args.columns (omega arith) c.loop-i.i c.loop-i.number c.loop-i.invariant)
 
 pub loop-i-preserved : goal.loop-i-preserved
 loop-i-preserved c =

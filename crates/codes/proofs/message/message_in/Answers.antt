@@ -6,7 +6,7 @@ use Rattle.codes.specs.Digits.{bits}
 use Rattle.codes.specs.Projection.{top_bits}
 use Rattle.codes.specs.Codes.{projection}
 use Rattle.codes.proofs.Horner.{followed_none}
-use Rattle.codes.proofs.Codes.{size_le, bits_le, systematic}
+use Rattle.codes.proofs.Codes.{size_le, systematic}
 use Rattle.codes.proofs.Readings.{read_tops, read_top, no_top, message_so_far}
 use Rattle.codes.proofs.message.message_in.Goals as goal
 use Rattle.codes.proofs.message.message_in.Goals.{then-i-columns, else-i-columns}
@@ -17,25 +17,13 @@ loop-i-init c =
     rw c.high_part-number.ensures (read_tops (projection a.code) (systematic a.code) a.columns (omega (arith, size_le a.code)))
 
 pub overflow_mul-number : goal.overflow_mul-number
-overflow_mul-number c =
-    let a = c.args in
-    let l = c.loop-i in
-    omega (
-      arith,
-      message_so_far (projection a.code) (systematic a.code) a.columns (omega (arith, size_le a.code)) (bits_le a.code) l.i l.number l.invariant,
-    )
+overflow_mul-number c = omega (arith, message_so_far c.args.code c.args.columns (omega arith) c.loop-i.i c.loop-i.number c.loop-i.invariant)
 
 pub overflow_add-number : goal.overflow_add-number
 overflow_add-number c =
-    let a = c.args in
-    let l = c.loop-i in
     let bit : c.from.result ≡ one c.top.result = search rules in
-    omega (
-      arith,
-      bit,
-      numbers.bits.small c.top.result,
-      message_so_far (projection a.code) (systematic a.code) a.columns (omega (arith, size_le a.code)) (bits_le a.code) l.i l.number l.invariant,
-    )
+    let small = message_so_far c.args.code c.args.columns (omega arith) c.loop-i.i c.loop-i.number c.loop-i.invariant in
+    omega (arith, bit, numbers.bits.small c.top.result, small)
 
 pub loop-i-preserved : goal.loop-i-preserved
 loop-i-preserved c =
