@@ -8,13 +8,13 @@ use lib.ListN.{get_or-eq_default, get_or-map, length-map}
 use Rattle.symbols.specs.Symbol.{Symbol, symbol_number}
 use Rattle.symbols.specs.Column.{Column, value, top, one, column_of}
 use Rattle.codes.specs.declared.code.Code.{Code}
-use Rattle.codes.specs.Digits.{bits, symbols}
+use Rattle.codes.specs.Digits.{Digit, bits, symbols}
 use Rattle.codes.specs.Projection.{Projection, size, top_bits, message_bits}
 use Rattle.codes.specs.Message.{chosen, but_last, message_in, message_number}
 use Rattle.codes.specs.Codes.{projection}
 use Rattle.codes.specs.ContractsOfWalk.{held, high_part}
 use Rattle.codes.proofs.Codes.{size_le, bits_le, systematic}
-use Rattle.codes.proofs.Digits.{symbols_fit, bits_fit}
+use Rattle.codes.proofs.Digits.{Fit, symbols_fit, bits_fit}
 use Rattle.codes.proofs.Horner.{followed, followed_next, followed_le}
 use Rattle.codes.proofs.Placing.{Systematic}
 use Rattle.codes.proofs.Encoding.{sized}
@@ -100,12 +100,11 @@ module _ (code : Code) (a : List ℕ) (room : length a ≡ 10) (i n : ℕ) where
   holds : size δ ≤ length a
   holds = omega (arith, size_le code)
 
+  so_far : {A : Type 0} (d : Digit A) → Fit d → (rest : List A) (whole : ℕ) → whole < 2 ^ message_bits δ → followed d n rest ≡ whole → n < 2 ^ 22
+  so_far d fit rest whole below e = lt_of_le_of_lt (rw (e) at (followed_le d fit n rest)) (lt_of_lt_of_le below (pow_mono (bits_le code)))
+
   pub high_so_far : followed symbols n (chosen (drop i δ.free) (map value (drop i (held δ a)))) ≡ high_part δ (held δ a) → n < 2 ^ 22
-  high_so_far e =
-      lt_of_le_of_lt (rw (e) at (followed_le symbols symbols_fit n (chosen (drop i δ.free) (map value (drop i (held δ a))))))
-      (lt_of_lt_of_le (high_bounded δ (systematic code) a holds) (pow_mono (bits_le code)))
+  high_so_far = so_far symbols symbols_fit _ _ (high_bounded δ (systematic code) a holds)
 
   pub message_so_far : followed bits n (drop i (but_last (map top (held δ a)))) ≡ message_number δ (message_in δ (held δ a)) → n < 2 ^ 22
-  message_so_far e =
-      lt_of_le_of_lt (rw (e) at (followed_le bits bits_fit n (drop i (but_last (map top (held δ a))))))
-      (lt_of_lt_of_le (message_bounded δ (systematic code) a holds) (pow_mono (bits_le code)))
+  message_so_far = so_far bits bits_fit _ _ (message_bounded δ (systematic code) a holds)

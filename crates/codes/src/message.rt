@@ -84,7 +84,6 @@ pub(crate) fn codeword(code: Code, message: u64) -> [u8; ROOM]
 }
 
 // The parity of a word's first column and the free values of its columns, highest first.
-#[inline(always)]
 fn high_part(code: Code, odd: bool, columns: [u8; ROOM]) -> u64
     requires { odd ≡ first_parity (held (projection code) columns) }
     ensures { result ≡ high_part (projection code) (held (projection code) columns) }
