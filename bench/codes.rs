@@ -101,8 +101,8 @@ fn sum_over_bytes(tables: &ByteTables, word: u64) -> u32 {
     (0..BYTES).fold(0, |sum, i| sum ^ tables[i][bytes[i] as usize])
 }
 
-/// What mending answers: codeword, message, wrong, marks.
-pub type Correction = [u64; 4];
+/// What mending answers: codeword, message, wrong, marks, marked wrong.
+pub type Correction = [u64; 5];
 
 /// A way to mend a word under marks.
 pub type Mend = fn(&Code, u64, u64) -> Option<Correction>;
@@ -258,9 +258,10 @@ impl Code {
         let count = marks.count_ones();
         let near = |filled| {
             let codeword = self.within_three(filled, project(filled))?;
-            let wrong = ((codeword ^ word) & !marks).count_ones();
+            let differing = codeword ^ word;
+            let (wrong, marked_wrong) = ((differing & !marks).count_ones(), (differing & marks).count_ones());
             let message = sum_over_bytes(&self.messages, codeword);
-            (2 * wrong + count <= 7).then_some([codeword, message as u64, wrong as u64, count as u64])
+            (2 * wrong + count <= 7).then_some([codeword, message as u64, wrong as u64, count as u64, marked_wrong as u64])
         };
         let found = near(word & !marks);
         if found.is_some() || marks == 0 { found } else { near(word | marks) }
@@ -341,8 +342,8 @@ impl Code {
     /// Mending by a search through all codewords.
     pub fn search(&self, codewords: &[u64], word: u64, marks: u64) -> Option<Correction> {
         codewords.iter().enumerate().find_map(|(message, &c)| {
-            let wrong = ((c ^ word) & !marks).count_ones() as u64;
-            (2 * wrong + marks.count_ones() as u64 <= 7).then(|| [c, message as u64, wrong, marks.count_ones() as u64])
+            let [wrong, count, marked_wrong] = [(c ^ word) & !marks, marks, (c ^ word) & marks].map(|bits| bits.count_ones() as u64);
+            (2 * wrong + count <= 7).then_some([c, message as u64, wrong, count, marked_wrong])
         })
     }
 }

@@ -423,7 +423,9 @@ fn for_codes<'a, T>(given: impl IntoIterator<Item = T>, of_code: impl Fn(&'stati
 }
 
 fn measure_mending(class: &str, words: &[Vec<(u64, u64)>]) {
-    let packed = |[codeword, message, wrong, marks]: Correction| codeword ^ message << 32 ^ wrong << 56 ^ marks << 60;
+    let packed = |[codeword, message, wrong, marks, marked_wrong]: Correction| {
+        codeword ^ message << 32 ^ wrong << 56 ^ marked_wrong << 58 ^ marks << 61
+    };
     let jobs = for_codes(words, |code, words| {
         let mut jobs = vec![each(words, move |&(word, marks)| library::correct(code.number, word, marks).map_or(u64::MAX, packed))];
         jobs.extend(DECODERS.map(|(_, mend)| each(words, move |&(word, marks)| mend(code, word, marks).map_or(u64::MAX, packed))));

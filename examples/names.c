@@ -78,12 +78,13 @@ static void check_words(struct code code)
     EXPECT(mizbulett_decode(code.number, top_bit, out), MIZBULETT_NOT_A_CODEWORD);
     EXPECT(mizbulett_decode(code.number, 2 * top_bit, out), MIZBULETT_WORD_TOO_WIDE);
 
-    /* The highest bit wrong, and the lowest three marked. */
-    EXPECT_VALUES(mizbulett_correct(code.number, code.codeword ^ top_bit, 7, out), MIZBULETT_CORRECT_VALUES);
+    /* The highest bit wrong, and the lowest three marked, two of which are wrong too. */
+    EXPECT_VALUES(mizbulett_correct(code.number, code.codeword ^ top_bit ^ 3, 7, out), MIZBULETT_CORRECT_VALUES);
     EXPECT(out[MIZBULETT_CORRECT_CODEWORD], code.codeword);
     EXPECT(out[MIZBULETT_CORRECT_MESSAGE], message);
     EXPECT(out[MIZBULETT_CORRECT_WRONG], 1);
     EXPECT(out[MIZBULETT_CORRECT_MARKS], 3);
+    EXPECT(out[MIZBULETT_CORRECT_MARKED_WRONG], 2);
     EXPECT(mizbulett_correct(code.number, code.codeword, top_bit, out), MIZBULETT_ACCEPTED);
     EXPECT(mizbulett_correct(code.number, code.codeword, 2 * top_bit, out), MIZBULETT_WORD_TOO_WIDE);
     EXPECT(mizbulett_correct(code.number, 2 * top_bit, 0, out), MIZBULETT_WORD_TOO_WIDE);
@@ -101,14 +102,18 @@ static void check_slot(struct code code)
     EXPECT(mizbulett_put(trace, len, 0, 0, MIZBULETT_OVER + 1), MIZBULETT_TOO_LARGE);
     EXPECT(mizbulett_flip(trace, len, 0, code.width - 1), MIZBULETT_ACCEPTED);
     EXPECT(mizbulett_flip(trace, len, 0, code.width), MIZBULETT_NO_POSITION);
-    EXPECT(mizbulett_mark(trace, len, 0, 0), MIZBULETT_ACCEPTED);
-    EXPECT(mizbulett_mark(trace, len, 0, 1), MIZBULETT_ACCEPTED);
+    for (uint64_t position = 0; position < 3; position++) {
+        EXPECT(mizbulett_mark(trace, len, 0, position), MIZBULETT_ACCEPTED);
+    }
+    EXPECT(mizbulett_flip(trace, len, 0, 0), MIZBULETT_ACCEPTED);
+    EXPECT(mizbulett_flip(trace, len, 0, 2), MIZBULETT_ACCEPTED);
 
     EXPECT_VALUES(mizbulett_read(trace, len, 0, out), MIZBULETT_READ_VALUES);
     EXPECT(out[MIZBULETT_READ_STEP], code.steps - 1);
     EXPECT(out[MIZBULETT_READ_READING], MIZBULETT_OVER);
     EXPECT(out[MIZBULETT_READ_WRONG], 1);
-    EXPECT(out[MIZBULETT_READ_MARKS], 2);
+    EXPECT(out[MIZBULETT_READ_MARKS], 3);
+    EXPECT(out[MIZBULETT_READ_MARKED_WRONG], 2);
 }
 
 /* A list of puts into the slots of a trace, with as many steps as readings. */
@@ -175,6 +180,7 @@ static void expect_whole(size_t len, uint64_t marks)
     EXPECT(out[MIZBULETT_READ_READING], 2);
     EXPECT(out[MIZBULETT_READ_WRONG], 0);
     EXPECT(out[MIZBULETT_READ_MARKS], marks);
+    EXPECT(out[MIZBULETT_READ_MARKED_WRONG], 0);
 }
 
 /* A load from a wider number: its low 32 bits are the seed, whatever the register holds above them. */

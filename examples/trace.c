@@ -26,9 +26,10 @@ static void print_slot(const uint8_t *trace, uint64_t slot)
     if (number != MIZBULETT_ACCEPTED) {
         printf("slot %" PRIu64 ": refused %" PRIu64 "\n", slot, number);
     } else {
-        printf("slot %" PRIu64 ": step %" PRIu64 " reading %" PRIu64 ", %" PRIu64 " wrong, %" PRIu64 " marked%s\n", slot,
+        printf("slot %" PRIu64 ": step %" PRIu64 " reading %" PRIu64 ", %" PRIu64 " wrong, %" PRIu64 " marked, %" PRIu64
+               " of them wrong%s\n", slot,
                out[MIZBULETT_READ_STEP], out[MIZBULETT_READ_READING], out[MIZBULETT_READ_WRONG], out[MIZBULETT_READ_MARKS],
-               is_pressure(out[MIZBULETT_READ_READING]) ? "" : ", no pressure");
+               out[MIZBULETT_READ_MARKED_WRONG], is_pressure(out[MIZBULETT_READ_READING]) ? "" : ", no pressure");
     }
 }
 

@@ -57,7 +57,7 @@ def main():
     put, put_list = declared(library, "put", NUMBER, NUMBER, NUMBER), declared(library, "put_list", NUMBER, NUMBERS, NUMBERS)
     flip, mark = declared(library, "flip", NUMBER, NUMBER), declared(library, "mark", NUMBER, NUMBER)
     load = declared(library, "load", NUMBER, SEED, NUMBER, values=1)
-    read, survey = declared(library, "read", NUMBER, values=4), declared(library, "survey", values=11)
+    read, survey = declared(library, "read", NUMBER, values=5), declared(library, "survey", values=11)
 
     trace = bytearray(SIZE)
     answers = [make(trace, CODE_36_O, SLOTS)]
@@ -89,13 +89,13 @@ def main():
     print("load 0 1 37: refused", load(trace, 0, 1, 37)[0])
 
     for slot in range(SLOTS):
-        number, (step, reading, wrong, marks) = read(trace, slot)
+        number, (step, reading, wrong, marks, marked_wrong) = read(trace, slot)
         if number != 0:
             print(f"slot {slot}: refused {number}")
         else:
             # A reading under or over the converter's range is no pressure.
             note = "" if UNDER < reading < OVER else ", no pressure"
-            print(f"slot {slot}: step {step} reading {reading}, {wrong} wrong, {marks} marked{note}")
+            print(f"slot {slot}: step {step} reading {reading}, {wrong} wrong, {marks} marked, {marked_wrong} of them wrong{note}")
 
     number, (blank, pressures, over, under, lost, bad, _, present, smallest, largest, mean) = survey(trace)
     assert number == 0, number

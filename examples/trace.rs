@@ -59,10 +59,10 @@ fn main() {
 
     for slot in 0..SLOTS {
         match read(&trace, slot) {
-            Ok([step, reading, wrong, marks]) => {
+            Ok([step, reading, wrong, marks, marked_wrong]) => {
                 // A reading under or over the converter's range is no pressure.
                 let note = if UNDER < reading && reading < OVER { "" } else { ", no pressure" };
-                println!("slot {slot}: step {step} reading {reading}, {wrong} wrong, {marks} marked{note}");
+                println!("slot {slot}: step {step} reading {reading}, {wrong} wrong, {marks} marked, {marked_wrong} of them wrong{note}");
             }
             Err(number) => println!("slot {slot}: refused {number}"),
         }

@@ -8,9 +8,9 @@
  * What mending can't tell. Beyond 8 a read refuses, or gives the reading of another codeword to which the damage came near.
  * Of the 376,992 sets of five wrong bits in a word of 36 bits, 24,864 bring it that near (6.6 %); at 40 bits 58,968 of
  * 658,008 do (9.0 %). The word is then as near to the other codeword as three wrong bits would bring it, so whoever mends
- * three wrong bits can't tell the two apart. With marks fewer wrong bits do: under seven marks one can be enough, and a
- * read then gives wrong 0. Many reads in which 2 * wrong + marks is 6 or 7, as with three wrong bits, or many lost ones,
- * are a warning: such a trace is one to look at before any limit is set from it.
+ * three wrong bits can't tell the two apart. With marks fewer wrong bits do: with seven marks on other bits one can be
+ * enough, and a read then gives wrong 0 and marked_wrong 7. Many reads in which 2 * wrong + marks is 6 or 7, as with three
+ * wrong bits, or many lost ones, are a warning: such a trace is one to look at before any limit is set from it.
  *
  * A reading of 0 (MIZBULETT_UNDER) is under the converter's range, as when the sensor's plug is out; at 4095 (MIZBULETT_OVER)
  * the converter tops out. Neither is a pressure, and a survey counts neither as one. A read gives them like any other reading.
@@ -32,7 +32,7 @@
  * Figures of the archive that `rt lib --cpu=x86-64` writes in crates/mizbulett, with rattle-kit-13f:
  *   machine   x86-64 with the System V calling convention (ELF); position independent; SSE registers and the red zone are used.
  *             Without --cpu it is written for x86-64-v2, and needs SSE4.1 and POPCNT
- *   size      19.3 kB, of which 12.1 kB are code and constants (ls, size)
+ *   size      19.5 kB, of which 12.2 kB are code and constants (ls, size)
  *   memory    no heap, and no data that is written: .data and .bss have 0 bytes (size, nm)
  *   symbols   the twelve functions below are defined, and memset is needed (nm -g)
  *   stack     600 bytes at most, beside what memset takes: of a painted stack no call used more, on traces of 4,000 damaged
@@ -49,7 +49,7 @@
 /* Raised whenever a call is added, or a call's numbers or values change; docs/CHANGES.md says which. Neither the linker nor a call compares it: a caller
  * that was compiled with another version's header, or declares the calls by hand, as from Python, may lend too short an `out`,
  * which is then overrun, and take one value for another. Compile every caller anew. */
-#define MIZBULETT_VERSION 4
+#define MIZBULETT_VERSION 5
 
 /* The most slots that a trace has, and the bytes of a trace of n slots: what a buffer needs at least. */
 #define MIZBULETT_MAX_SLOTS 4000
@@ -105,9 +105,10 @@ enum { MIZBULETT_DECODE_MESSAGE = 0, MIZBULETT_DECODE_VALUES = 1 };
 enum {
     MIZBULETT_CORRECT_CODEWORD = 0,
     MIZBULETT_CORRECT_MESSAGE = 1,
-    MIZBULETT_CORRECT_WRONG = 2, /* the positions that differ and are not marked */
-    MIZBULETT_CORRECT_MARKS = 3, /* the marked positions */
-    MIZBULETT_CORRECT_VALUES = 4
+    MIZBULETT_CORRECT_WRONG = 2,        /* the positions that differ from the codeword and are not marked */
+    MIZBULETT_CORRECT_MARKS = 3,        /* the marked positions */
+    MIZBULETT_CORRECT_MARKED_WRONG = 4, /* the marked positions that differ from the codeword */
+    MIZBULETT_CORRECT_VALUES = 5
 };
 
 /* The codeword of a message. Refusals 1, 2. */
@@ -116,8 +117,8 @@ uint64_t mizbulett_encode(uint64_t code, uint64_t message, uint64_t out[MIZBULET
 /* The message of a codeword, and of no other word. Refusals 1, 3, 4. */
 uint64_t mizbulett_decode(uint64_t code, uint64_t word, uint64_t out[MIZBULETT_DECODE_VALUES]);
 
-/* The only codeword with 2 * wrong + marks at most 7, where wrong counts the positions that differ and are not marked.
- * Refusals 1, 3, 5. */
+/* The only codeword with 2 * wrong + marks at most 7, where wrong counts the positions that differ and are not marked. What
+ * stands at a marked position doesn't change this sum. Refusals 1, 3, 5. */
 uint64_t mizbulett_correct(uint64_t code, uint64_t word, uint64_t marks, uint64_t out[MIZBULETT_CORRECT_VALUES]);
 
 /*
@@ -135,10 +136,11 @@ enum {
 
 enum {
     MIZBULETT_READ_STEP = 0,
-    MIZBULETT_READ_READING = 1, /* a pressure where it is above MIZBULETT_UNDER and below MIZBULETT_OVER, and only there */
-    MIZBULETT_READ_WRONG = 2,   /* the positions that differ and are not marked */
-    MIZBULETT_READ_MARKS = 3,   /* the marked positions */
-    MIZBULETT_READ_VALUES = 4
+    MIZBULETT_READ_READING = 1,      /* a pressure where it is above MIZBULETT_UNDER and below MIZBULETT_OVER, and only there */
+    MIZBULETT_READ_WRONG = 2,        /* the positions that differ from the codeword and are not marked */
+    MIZBULETT_READ_MARKS = 3,        /* the marked positions */
+    MIZBULETT_READ_MARKED_WRONG = 4, /* the marked positions that differ from the codeword: that of the reading given */
+    MIZBULETT_READ_VALUES = 5
 };
 
 enum {

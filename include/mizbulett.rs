@@ -49,7 +49,8 @@ pub const CORRECT_CODEWORD: usize = 0;
 pub const CORRECT_MESSAGE: usize = 1;
 pub const CORRECT_WRONG: usize = 2;
 pub const CORRECT_MARKS: usize = 3;
-pub const CORRECT_VALUES: usize = 4;
+pub const CORRECT_MARKED_WRONG: usize = 4;
+pub const CORRECT_VALUES: usize = 5;
 
 pub const LOAD_NUMBER: usize = 0;
 pub const LOAD_VALUES: usize = 1;
@@ -58,7 +59,8 @@ pub const READ_STEP: usize = 0;
 pub const READ_READING: usize = 1;
 pub const READ_WRONG: usize = 2;
 pub const READ_MARKS: usize = 3;
-pub const READ_VALUES: usize = 4;
+pub const READ_MARKED_WRONG: usize = 4;
+pub const READ_VALUES: usize = 5;
 
 pub const SURVEY_BLANK: usize = 0;
 pub const SURVEY_READ: usize = 1;
@@ -120,7 +122,7 @@ pub fn decode(code: u64, word: u64) -> Result<u64, u64> {
     answer(|out| unsafe { c::mizbulett_decode(code, word, out) }).map(|out| out[DECODE_MESSAGE])
 }
 
-/// The near codeword, its message, wrong and marks.
+/// The near codeword, its message, wrong, marks and marked wrong.
 pub fn correct(code: u64, word: u64, marks: u64) -> Result<[u64; CORRECT_VALUES], u64> {
     answer(|out| unsafe { c::mizbulett_correct(code, word, marks, out) })
 }
@@ -159,7 +161,7 @@ pub fn clear(buf: &mut [u8], slot: u64) -> Result<(), u64> {
     accepted(unsafe { c::mizbulett_clear(buf.as_mut_ptr(), buf.len(), slot) }, ())
 }
 
-/// Step, reading, wrong and marks.
+/// Step, reading, wrong, marks and marked wrong.
 pub fn read(buf: &[u8], slot: u64) -> Result<[u64; READ_VALUES], u64> {
     answer(|out| unsafe { c::mizbulett_read(buf.as_ptr(), buf.len(), slot, out) })
 }

@@ -32,6 +32,7 @@ use Rattle.codes.proofs.Rows.{not_refused, accepted_row, by_table, passes_first,
 use Rattle.codes.proofs.Tests.{leb_iff, not_iff}
 use Rattle.codes.proofs.Laws.{code_iff}
 pub use Rattle.codes.proofs.Positions.{positions}
+pub use Rattle.codes.proofs.Counting.{positions_counted}
 use Rattle.codes.proofs.Corrections as corrections
 use Rattle.codes.proofs.Corrections.{corrected, correct_near, correct_none, correcting_fits}
 

@@ -14,7 +14,7 @@ use Rattle.codes.specs.declared.answer.Correction.{Correction}
 use Rattle.codes.specs.Projection.{Projection, width, message_bits}
 use Rattle.codes.specs.Word.{word, is_codeword, ◌⊞◌, distance}
 use Rattle.codes.specs.Message.{encode, decode}
-use Rattle.codes.specs.Correction.{outside, wrong, ones, is_near, Near, correction_of, near_from, correct}
+use Rattle.codes.specs.Correction.{outside, inside, wrong, marked_wrong, ones, is_near, Near, correction_of, near_from, correct}
 use Rattle.codes.specs.Codes.{correction_answer, correcting}
 use Rattle.codes.specs.ContractsOfSearch.{Within, NearWithin}
 use Rattle.codes.proofs.Placing.{Systematic}
@@ -148,16 +148,21 @@ module _ (π : Projection) (w m : ℕ) where
   pub many_marks : 7 < ones π m → (y : ℕ) → Near π w m y → ⊥
   many_marks h y c = omega (arith, near_sum π w m y c.near)
 
--- in the word that is a codeword with positions f inverted, wrong is the number of those that are not marked
+-- in the word that is a codeword with positions f inverted, wrong is the number of those that are not marked, and marked_wrong that of those that are
 word_twice : (a b : List Column) → length a ≡ length b → a ⊞ (a ⊞ b) ≡ b
 word_twice [] [] e = refl
 word_twice [] (b ∷ bs) e = absurd (omega arith)
 word_twice (a ∷ xs) [] e = absurd (omega arith)
 word_twice (a ∷ xs) (b ∷ bs) e = ap₂ ◌∷◌ (columns_add.twice a b) (word_twice xs bs (omega arith))
 
+differs_inverted : (π : Projection) (x f : ℕ) → word π x ⊞ word π (bit_xor x f) ≡ word π f
+differs_inverted π x f = rw (word_xor π x f) (word_twice (word π x) (word π f) (same_length π x f))
+
 pub wrong_inverted : (π : Projection) (m x f : ℕ) → wrong π (bit_xor x f) m x ≡ outside (word π f) (word π m)
-wrong_inverted π m x f =
-    rw (word_xor π x f, word_twice (word π x) (word π f) (same_length π x f))
+wrong_inverted π m x f = rw (differs_inverted π x f)
+
+pub marked_wrong_inverted : (π : Projection) (m x f : ℕ) → marked_wrong π (bit_xor x f) m x ≡ inside (word π f) (word π m)
+marked_wrong_inverted π m x f = rw (differs_inverted π x f)
 
 -- what a call answers where no row of the widths is met
 pub correcting_fits : (π : Projection) (w m : ℕ) → w < 2 ^ width π → m < 2 ^ width π → correcting π w m ≡ correction_answer (correct π w m)

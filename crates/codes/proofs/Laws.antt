@@ -11,7 +11,7 @@ use Rattle.codes.specs.Projection.{width, message_bits}
 use Rattle.codes.specs.Codes.{projection, is_code, step_limit, correction_values, correction_answer}
 use Rattle.codes.specs.Word.{word}
 use Rattle.codes.specs.Message.{encode}
-use Rattle.codes.specs.Correction.{outside, ones, Near, correction_of, correct}
+use Rattle.codes.specs.Correction.{outside, inside, ones, Near, correction_of, correct}
 use Rattle.codes.proofs.Messages.{encode_below, encode_codeword, decode_encode}
 use Rattle.codes.proofs.Codes.{systematic, apart}
 use Rattle.codes.proofs.Corrections as corrections
@@ -54,6 +54,7 @@ pub correct_within : (c : Code) (n f m : ℕ) → n < 2 ^ message_bits (projecti
       message = n;
       wrong = outside (word (projection c) f) (word (projection c) m);
       marks = ones (projection c) m;
+      marked_wrong = inside (word (projection c) f) (word (projection c) m);
     })
 correct_within c n f m hn h =
     let π = projection c in
@@ -64,7 +65,7 @@ correct_within c n f m hn h =
       codeword = encode_codeword π (systematic c) n;
       near = corrections.sum_near π (bit_xor x f) m x (rw e h);
     } in
-    rw (near_correct c (bit_xor x f) m x near, e, decode_encode π (systematic c) n hn)
+    rw (near_correct c (bit_xor x f) m x near, e, corrections.marked_wrong_inverted π m x f, decode_encode π (systematic c) n hn)
 
 pub correct_eight : (c : Code) (n f m : ℕ) →
     2 * outside (word (projection c) f) (word (projection c) m) + ones (projection c) m ≡ 8 →
@@ -94,7 +95,8 @@ answer_near (some x) c e =
     let message : x.message ≡ c.message = cc in
     let wrongs : x.wrong ≡ c.wrong = cc in
     let marks : x.marks ≡ c.marks = cc in
-    λ i. some (record { codeword = codeword i; message = message i; wrong = wrongs i; marks = marks i })
+    let marked : x.marked_wrong ≡ c.marked_wrong = cc in
+    λ i. some (record { codeword = codeword i; message = message i; wrong = wrongs i; marks = marks i; marked_wrong = marked i })
 answer_near none c e = not_refused _ _ e
 
 pub answer_none : (x : Option Correction) (n : ℕ) → refused n ≡ correction_answer x → x ≡ none

@@ -27,6 +27,8 @@ mod Positions
 mod Distance
 -- at most one codeword is near, and it is within three positions of a word with its marked bits filled
 mod Nearness
+-- what mending counts are positions
+mod Counting
 -- ---- messages
 -- free values and the others in their columns
 mod Placing

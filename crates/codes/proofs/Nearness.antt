@@ -5,7 +5,7 @@
 -- wrong counts in both, a marked one in just one of them. So one of the two is within three positions of a near codeword.
 -- The ones of a number are those of its columns, so that wrong and marks can be counted on numbers.
 use Rattle.std.proofs.Common.{◌≡◌, ℕ, ◌+◌, ◌*◌, ◌^◌, ◌<◌, ◌≤◌, Bool, true, not, ◌&&◌, ◌||◌, List, [], ◌∷◌, length, sym, refl, ap, ◌∙◌, ap₂, arith}
-use lib.Bits.{bit_xor, bit_or}
+use lib.Bits.{bit_and, bit_xor, bit_or}
 use lib.Count.{ones_cat}
 use lib.Count as count
 use Rattle.symbols.specs.Symbol.{◌⊻◌}
@@ -15,12 +15,12 @@ use Rattle.symbols.proofs.Claims.{weights}
 use Rattle.codes.specs.Digits.{columns, number_of}
 use Rattle.codes.specs.Projection.{Projection, width}
 use Rattle.codes.specs.Word.{word, ◌⊞◌, is_codeword, weight_of, distance}
-use Rattle.codes.specs.Correction.{outside_in, outside, wrong, ones}
+use Rattle.codes.specs.Correction.{outside_in, outside, wrong, inside_in, inside, marked_wrong, ones}
 use Rattle.codes.proofs.Digits.{columns_fit, number_lt, pow_mul}
 use Rattle.codes.proofs.Words.{length_word, same_length, codeword_parity}
 use Rattle.codes.proofs.Distance.{Apart, close_same}
 use Rattle.codes.proofs.Messages.{number_word, word_injective}
-use Rattle.codes.proofs.Sums.{zip, or_in, word_xor, word_or}
+use Rattle.codes.proofs.Sums.{zip, or_in, and_in, word_xor, word_or, word_and}
 
 -- two words differ at most in the marked positions and in those, unmarked, where one of them differs from a third: a bit, a column, a word
 between_bit : (a b w m : Bool) → one (a ⊻ b) ≤ one ((a ⊻ w) && not m) + one ((b ⊻ w) && not m) + one m
@@ -108,9 +108,26 @@ pub count_ones : (π : Projection) (x : ℕ) → x < 2 ^ width π → count.ones
 count_ones π x h = ap count.ones (sym (number_word π x h)) ∙ count_number (word π x)
 
 -- the ones that are left are as many as positions are wrong
+pub ones_outside : (π : Projection) (a m : ℕ) → ones π (bit_xor (bit_or a m) m) ≡ outside (word π a) (word π m)
+ones_outside π a m = rw (word_xor π (bit_or a m) m, word_or π a m) (outside_list (word π a) (word π m))
+
 pub ones_wrong : (π : Projection) (w m x : ℕ) → ones π (bit_xor (bit_or (bit_xor x w) m) m) ≡ wrong π w m x
-ones_wrong π w m x =
-    rw (word_xor π (bit_or (bit_xor x w) m) m, word_or π (bit_xor x w) m, word_xor π x w) (outside_list (word π x ⊞ word π w) (word π m))
+ones_wrong π w m x = ones_outside π (bit_xor x w) m ∙ ap (λ d. outside d (word π m)) (word_xor π x w)
+
+-- the ones that a difference shares with the marks are as many as marked positions are wrong
+inside_list : (c m : List Column) → weight_of (zip and_in c m) ≡ inside c m
+inside_list [] m = refl
+inside_list (c ∷ cs) [] = refl
+inside_list (c ∷ cs) (m ∷ ms) = ap₂ ◌+◌ (inside_column c m) (inside_list cs ms)
+  where
+    inside_column : (c m : Column) → weight (and_in c m) ≡ inside_in c m
+    inside_column (column a b c d) (column k l m n) = refl
+
+pub ones_inside : (π : Projection) (a m : ℕ) → ones π (bit_and a m) ≡ inside (word π a) (word π m)
+ones_inside π a m = rw (word_and π a m) (inside_list (word π a) (word π m))
+
+pub ones_marked_wrong : (π : Projection) (w m x : ℕ) → ones π (bit_and (bit_xor x w) m) ≡ marked_wrong π w m x
+ones_marked_wrong π w m x = ones_inside π (bit_xor x w) m ∙ ap (λ d. inside d (word π m)) (word_xor π x w)
 
 -- a word has no more ones than bits
 weight_length : (cs : List Column) → weight_of cs ≤ 4 * length cs

@@ -1,10 +1,10 @@
--- Exclusive or and or of numbers, digit by digit: words as numbers add column by column, packed vectors symbol by symbol.
+-- 'xor', 'or' and 'and' of numbers, digit by digit: words as numbers add column by column, packed vectors symbol by symbol.
 -- Where a base is a power of two, an operation that goes bit by bit goes digit by digit: it commutes with taking a number's quotient
 -- and its remainder by a power of two, so one digit of its result is what it makes of two digits, and that is a test over all digits.
-use Rattle.std.proofs.Common.{◌≡◌, ℕ, zero, suc, ◌*◌, ◌/◌, ◌%◌, ◌^◌, true, ◌||◌, T, List, [], ◌∷◌, sym, refl, ap, ◌∙◌, ap₂, mod-lt, arith}
+use Rattle.std.proofs.Common.{◌≡◌, ℕ, zero, suc, ◌*◌, ◌/◌, ◌%◌, ◌^◌, true, ◌&&◌, ◌||◌, T, List, [], ◌∷◌, sym, refl, ap, ◌∙◌, ap₂, mod-lt, arith}
 use mathlib.Core.Bool.{Bool-discrete, and-eq-true_iff}
 use native.Mathlib.Nat.{zero-div}
-use lib.Bits.{bit_xor, bit_or, xor_shr, xor_mod, or_shr, or_mod}
+use lib.Bits.{bit_and, bit_xor, bit_or, and_shr, and_mod, xor_shr, xor_mod, or_shr, or_mod}
 use Rattle.symbols.specs.Symbol.{Symbol, Symbol-discrete, is_zero, add, symbol_of}
 use Rattle.symbols.specs.Column.{Column, column, Column-discrete, ◌⊕◌}
 use Rattle.symbols.proofs.Claims.{field}
@@ -16,15 +16,18 @@ use Rattle.codes.specs.Word.{word, ◌⊞◌}
 use Rattle.codes.proofs.Digits.{Fit, symbols_fit, columns_fit, pow_mul}
 
 -- an operation on numbers that goes bit by bit
-record Bitwise (op : ℕ → ℕ → ℕ) : Type 0 where
-  quotient : (a b k : ℕ) → op a b / 2 ^ k ≡ op (a / 2 ^ k) (b / 2 ^ k)
-  remainder : (a b k : ℕ) → op a b % 2 ^ k ≡ op (a % 2 ^ k) (b % 2 ^ k)
+pub record Bitwise (op : ℕ → ℕ → ℕ) : Type 0 where
+  pub quotient : (a b k : ℕ) → op a b / 2 ^ k ≡ op (a / 2 ^ k) (b / 2 ^ k)
+  pub remainder : (a b k : ℕ) → op a b % 2 ^ k ≡ op (a % 2 ^ k) (b % 2 ^ k)
 
-xor_bitwise : Bitwise bit_xor
+pub xor_bitwise : Bitwise bit_xor
 xor_bitwise = record { quotient = xor_shr; remainder = xor_mod }
 
-or_bitwise : Bitwise bit_or
+pub or_bitwise : Bitwise bit_or
 or_bitwise = record { quotient = or_shr; remainder = or_mod }
+
+pub and_bitwise : Bitwise bit_and
+and_bitwise = record { quotient = and_shr; remainder = and_mod }
 
 -- two lists joined element by element, as far as the shorter goes
 abbrev pub zip : {A : Type 0} → (A → A → A) → List A → List A → List A
@@ -84,9 +87,16 @@ columns_xor k a b =
 pub word_xor : (π : Projection) (a b : ℕ) → word π (bit_xor a b) ≡ word π a ⊞ word π b
 word_xor π a b = columns_xor (size π) a b
 
--- words joined by or
+-- words joined by 'or'
 abbrev pub or_in : Column → Column → Column
 or_in (column a b c d) (column k l m n) = column (a || k) (b || l) (c || m) (d || n)
 
 pub word_or : (π : Projection) (a b : ℕ) → word π (bit_or a b) ≡ zip or_in (word π a) (word π b)
 word_or π a b = digits_op columns columns_fit 4 refl (Column-discrete Bool-discrete) bit_or or_bitwise or_in tt (size π) a b
+
+-- words joined by 'and'
+abbrev pub and_in : Column → Column → Column
+and_in (column a b c d) (column k l m n) = column (a && k) (b && l) (c && m) (d && n)
+
+pub word_and : (π : Projection) (a b : ℕ) → word π (bit_and a b) ≡ zip and_in (word π a) (word π b)
+word_and π a b = digits_op columns columns_fit 4 refl (Column-discrete Bool-discrete) bit_and and_bitwise and_in tt (size π) a b

@@ -1,8 +1,8 @@
--- The claims about the four codes, in the words of the demands, of the scope and of the requests: demand 2, the word calls' part of demand 1, and what
--- the walk over a word's columns hands on (request 4). Each is one definition, and one theorem of the same name in proofs/Claims.antt. They speak of
--- the definitions, and so, by the contracts, of the functions. `WalkCollects` alone speaks of what a function hands on: it is the contract of
--- `Code::walk`, whose proof is its theorem.
-use Rattle.std.specs.Prelude.{◌≡◌, ℕ, ◌+◌, ◌-◌, ◌*◌, ◌^◌, ◌<◌, ◌≤◌, true, ◌⊎◌, ◌↔◌, List, [], ◌∷◌, map, ◌≢◌, slice_index, slice_index_or}
+-- The claims about the four codes, in the words of the demands, of the scope and of the requests: demand 2, the word calls' part of demand 1, what the
+-- walk over a word's columns hands on (request 4), and that mending counts positions (request 5). Each is one definition, and one theorem of the same
+-- name in proofs/Claims.antt. They speak of the definitions, and so, by the contracts, of the functions. `WalkCollects` alone speaks of what a function
+-- hands on: it is the contract of `Code::walk`, whose proof is its theorem.
+use Rattle.std.specs.Prelude.{◌≡◌, ℕ, zero, suc, ◌+◌, ◌-◌, ◌*◌, ◌^◌, ◌<◌, ◌≤◌, Bool, true, not, ◌&&◌, ◌==◌, ◌⊎◌, ◌↔◌, List, [], ◌∷◌, map, ◌≢◌, slice_index, slice_index_or}
 use Rattle.symbols.specs.Symbol.{has_bit}
 use Rattle.symbols.specs.Column.{Column, column, column_of, one, parity}
 use Rattle.codes.specs.declared.code.Code.{Code}
@@ -12,8 +12,8 @@ use Rattle.codes.specs.Answer.{Answer, accepted, refused, Row, Passes, Refuses}
 use Rattle.codes.specs.Projection.{rule_o, rule_e, Projection, size, width, message_bits}
 use Rattle.codes.specs.Word.{word, bit_at, syndrome_of, top_row, is_codeword, ◌⊞◌, distance}
 use Rattle.codes.specs.Message.{encode, decode}
-use Rattle.codes.specs.Correction.{wrong, ones, Near, correction_of}
-use Rattle.codes.specs.Codes.{codes, projection, code_of, step_limit, correction_values, encoding, decoding, correcting, under}
+use Rattle.codes.specs.Correction.{outside, wrong, inside, marked_wrong, ones, Near}
+use Rattle.codes.specs.Codes.{codes, projection, code_of, step_limit, encoding, decoding, correcting, under}
 use Rattle.codes.specs.Codes.{unknown_code, message_too_large, word_too_wide, not_a_codeword, none_near}
 use Rattle.codes.specs.Starred.{starred_words, Each}
 
@@ -92,6 +92,33 @@ abbrev pub EightApart : Type 0
 EightApart =
     (c : Code) (x y : ℕ) → IsCodeword c x → IsCodeword c y → (x ≢ y) → 8 ≤ distance (word (projection c) x) (word (projection c) y)
 
+-- a word has a one at a position; two words differ there
+abbrev pub is_one : Projection → ℕ → ℕ → Bool
+is_one π n position = bit_at π n position == 1
+
+abbrev pub differ_at : Projection → ℕ → ℕ → ℕ → Bool
+differ_at π w x position = not (bit_at π w position == bit_at π x position)
+
+-- how many of the first n positions pass a test
+abbrev pub how_many : (ℕ → Bool) → ℕ → ℕ
+how_many test zero = 0
+how_many test (suc n) = one (test 0) + how_many (λ p. test (suc p)) n
+
+-- what is counted of words column by column is a number of positions
+pub record PositionsCounted : Type 0 where
+  -- 'the number of unmarked positions where it differs from the word'
+  pub unmarked : (π : Projection) (w m x : ℕ) → wrong π w m x ≡ how_many (λ p. differ_at π w x p && not (is_one π m p)) (width π)
+  -- 'the number of marks'
+  pub marks : (π : Projection) (m : ℕ) → ones π m ≡ how_many (is_one π m) (width π)
+  -- 'the number of marked positions where the stored bit differs from the codeword'
+  pub marked : (π : Projection) (w m x : ℕ) → marked_wrong π w m x ≡ how_many (λ p. differ_at π w x p && is_one π m p) (width π)
+  -- all positions where they differ; each is counted once, as unmarked or as marked
+  pub differing : (π : Projection) (w x : ℕ) → distance (word π x) (word π w) ≡ how_many (differ_at π w x) (width π)
+  pub all : (π : Projection) (w m x : ℕ) → wrong π w m x + marked_wrong π w m x ≡ distance (word π x) (word π w)
+  -- of two sets of positions: those in F and not in M, and those in both
+  pub in_first_alone : (π : Projection) (F M : ℕ) → outside (word π F) (word π M) ≡ how_many (λ p. is_one π F p && not (is_one π M p)) (width π)
+  pub in_both : (π : Projection) (F M : ℕ) → inside (word π F) (word π M) ≡ how_many (λ p. is_one π F p && is_one π M p) (width π)
+
 -- 'A codeword is near if 2·wrong + marks is at most 7; there is at most one'
 abbrev pub OneNear : Type 0
 OneNear = (c : Code) (w m x y : ℕ) → Near (projection c) w m x → Near (projection c) w m y → x ≡ y
@@ -102,13 +129,18 @@ EightIsFar =
     (c : Code) (w m x : ℕ) → IsCodeword c x → 2 * wrong (projection c) w m x + ones (projection c) m ≡ 8 →
     (y : ℕ) → Near (projection c) w m y → ⊥
 
--- 'The answer is the codeword, its message, wrong and the number of marks': given exactly where that codeword is near
+-- 'The answer is the codeword, its message, wrong and the number of marks'; 'Mending and read also give the number of marked positions where the stored
+-- bit differs from the codeword'
+abbrev pub mended : Projection → ℕ → ℕ → ℕ → List ℕ
+mended π w m x = x ∷ decode π x ∷ wrong π w m x ∷ ones π m ∷ marked_wrong π w m x ∷ []
+
+-- these are given exactly where that codeword is near
 abbrev pub CorrectsNear : Type 0
 CorrectsNear =
     (c : Code) (w m : ℕ) → w < 2 ^ width (projection c) → m < 2 ^ width (projection c) →
-    ((x : ℕ) → Near (projection c) w m x → correcting (projection c) w m ≡ accepted (correction_values (correction_of (projection c) w m x)))
+    ((x : ℕ) → Near (projection c) w m x → correcting (projection c) w m ≡ accepted (mended (projection c) w m x))
     × ((values : List ℕ) → correcting (projection c) w m ≡ accepted values →
-    (x : ℕ) × Near (projection c) w m x × (values ≡ correction_values (correction_of (projection c) w m x)))
+    (x : ℕ) × Near (projection c) w m x × (values ≡ mended (projection c) w m x))
 
 -- 'no near codeword': refusal 5, exactly there
 abbrev pub RefusesFar : Type 0

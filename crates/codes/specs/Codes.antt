@@ -46,7 +46,7 @@ refusal_number NoneNear = 5
 
 -- the values of a correction, in the order in which mending answers them
 abbrev pub correction_values : Correction → List ℕ
-correction_values c = c.codeword ∷ c.message ∷ c.wrong ∷ c.marks ∷ []
+correction_values c = c.codeword ∷ c.message ∷ c.wrong ∷ c.marks ∷ c.marked_wrong ∷ []
 
 -- the number and values of each case of an answer
 abbrev pub encoded_answer : Result ℕ Refusal → Answer (List ℕ)

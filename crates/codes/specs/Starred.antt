@@ -16,10 +16,10 @@ Each (s ∷ l) = (s.call ≡ s.says) × Each l
 abbrev pub encoded : ℕ → ℕ → ℕ → Sample
 encoded code message word = record { call = under code (λ π. encoding π message); says = accepted (word ∷ []) }
 
--- mending a word under marks gives a codeword, its message, wrong and the number of marks; or nothing is near
-abbrev pub corrected : ℕ → ℕ → ℕ → ℕ → ℕ → ℕ → ℕ → Sample
-corrected code word marks codeword message wrong count =
-    record { call = under code (λ π. correcting π word marks); says = accepted (codeword ∷ message ∷ wrong ∷ count ∷ []) }
+-- mending a word under marks gives a codeword, its message, wrong, the number of marks, and that of the marked bits that were wrong; or nothing is near
+abbrev pub corrected : ℕ → ℕ → ℕ → ℕ → ℕ → ℕ → ℕ → ℕ → Sample
+corrected code word marks codeword message wrong count marked_wrong =
+    record { call = under code (λ π. correcting π word marks); says = accepted (codeword ∷ message ∷ wrong ∷ count ∷ marked_wrong ∷ []) }
 
 abbrev pub lost : ℕ → ℕ → ℕ → Sample
 lost code word marks = record { call = under code (λ π. correcting π word marks); says = refused 5 }
@@ -32,11 +32,11 @@ starred_words =
     ∷ encoded 2 262144 0x777777777
     ∷ encoded 3 524288 0x3003000065
     ∷ encoded 4 2097152 0x7777777777
-    ∷ corrected 1 0x2E485A2D4 0 0x2E48722D4 305489 2 0
-    ∷ corrected 2 0x2D711B194 0 0x2D717B114 294212 3 0
-    ∷ corrected 1 0xE00000000 0 0 0 3 0
+    ∷ corrected 1 0x2E485A2D4 0 0x2E48722D4 305489 2 0 0
+    ∷ corrected 2 0x2D711B194 0 0x2D717B114 294212 3 0 0
+    ∷ corrected 1 0xE00000000 0 0 0 3 0 0
     ∷ lost 1 0xF00000000 0
-    ∷ corrected 1 0xF00000000 0xF00000000 0 0 0 4
-    ∷ corrected 1 0xE00000000 0x080000000 0 0 3 1
+    ∷ corrected 1 0xF00000000 0xF00000000 0 0 0 4 4
+    ∷ corrected 1 0xE00000000 0x080000000 0 0 3 1 0
     ∷ lost 1 0xE00000000 0x0C0000000
     ∷ []

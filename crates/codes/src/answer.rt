@@ -27,11 +27,13 @@ impl Refusal {
     }
 }
 
-// What mending finds: the near codeword, its message, the unmarked positions where it differs from the word, and the number of marks.
+// What mending finds: the near codeword, its message, the number of unmarked positions where it differs from the word, that of the marks, and that of the
+// marked positions where it differs.
 #[derive(Clone, Copy)]
 pub struct Correction {
     pub codeword: u64,
     pub message: u64,
     pub wrong: u64,
     pub marks: u64,
+    pub marked_wrong: u64,
 }

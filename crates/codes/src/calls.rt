@@ -49,8 +49,8 @@ impl Code {
         Err(Refusal::NotACodeword)
     }
 
-    // The near codeword, its message, the number of wrong bits and that of the marks. Refused where the word or the marks have a bit
-    // above the code's width, or no codeword is near.
+    // The near codeword, its message, the number of wrong bits, that of the marks and that of the marked bits that were wrong. Refused where the word or the
+    // marks have a bit above the code's width, or no codeword is near.
     pub fn correct(self, word: u64, marks: u64) -> Result<Correction, Refusal>
         ensures { corrected_answer result ≡ correcting (projection self) word marks }
     {
@@ -76,6 +76,7 @@ impl Code {
             message: message_in(self, symbols::parity(columns[0]), columns),
             wrong: marked.wrong(codeword),
             marks: count,
+            marked_wrong: marked.marked_wrong(codeword),
         })
     }
 }

@@ -3,7 +3,7 @@
 // The marked bits are filled with zeros, then with ones: one of the two words is within three positions of a near codeword.
 ghost use Rattle.std.specs.Prelude.{◌≡◌, ◌^◌, ◌<◌};
 ghost use Rattle.codes.specs.Projection.{Projection, width};
-ghost use Rattle.codes.specs.Correction.{wrong, ones, Near};
+ghost use Rattle.codes.specs.Correction.{wrong, marked_wrong, ones, Near};
 ghost use Rattle.codes.specs.Codes.{projection};
 ghost use Rattle.codes.specs.ContractsOfSearch.{NearWithin, Sought};
 
@@ -37,6 +37,14 @@ impl Marked {
         ensures { result ≡ wrong (projection self.code) self.word self.marks codeword }
     {
         ones(((codeword ^ self.word) | self.marks) ^ self.marks)
+    }
+
+    // The number of marked positions where a codeword differs from the word.
+    pub(crate) fn marked_wrong(self, codeword: u64) -> u64
+        requires { codeword < 2 ^ width (projection self.code) }
+        ensures { result ≡ marked_wrong (projection self.code) self.word self.marks codeword }
+    {
+        ones((codeword ^ self.word) & self.marks)
     }
 
     // The near codeword, if it is within three positions of a filling of the marked bits.

@@ -57,7 +57,8 @@ pub(crate) fn correct_outcome(code: u32, tried: Tried) -> Outcome<Option<u64>> {
             let agrees = c.message == message
                 && c.codeword == codeword(code, message)
                 && c.wrong == word.wrong(c.codeword)
-                && c.marks == ones(word.marks);
+                && c.marks == ones(word.marks)
+                && c.marked_wrong == word.marked_wrong(c.codeword);
             outcome(agrees, Some(word.sum(c.codeword)))
         }
         (Err(refusal), Near::None) => outcome(refusal.number() == NONE_NEAR, None),
@@ -77,10 +78,12 @@ pub(crate) fn decode_outcome(code: u32, tried: Tried) -> Outcome<bool> {
 
 // Whether a read gives a message, at its word.
 fn is_reading(reading: Reading, code: u32, message: u64, word: Word) -> bool {
+    let codeword = codeword(code, message);
     reading.step == message / READINGS
         && reading.reading == message % READINGS
-        && reading.wrong == word.wrong(codeword(code, message))
+        && reading.wrong == word.wrong(codeword)
         && reading.marks == ones(word.marks)
+        && reading.marked_wrong == word.marked_wrong(codeword)
 }
 
 // The outcome of a read: the slot's group, where the read gives what the search found, or the refusal of a blank slot.

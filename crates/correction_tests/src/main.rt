@@ -30,8 +30,8 @@ fn show(rt: &impl Print, code: u32, word: u64, marks: u64) -> io::Result<()> {
     print!(rt; "code {code} mends {word:0digits$x} under {marks:0digits$x}: ")?;
     match codes::correct(u64::from(code), word, marks) {
         Ok(c) => println!(rt;
-            "{:0digits$x}, message {}, wrong {}, marks {}",
-            c.codeword, c.message, c.wrong, c.marks
+            "{:0digits$x}, message {}, wrong {}, marks {}, marked wrong {}",
+            c.codeword, c.message, c.wrong, c.marks, c.marked_wrong
         ),
         Err(refusal) => println!(rt; "refused {}", refusal.number()),
     }
@@ -187,6 +187,19 @@ fn show_words(rt: &impl Print) -> io::Result<()> {
     show(rt, 3, 0x3300000000, 0)
 }
 
+// Words whose marked bits are all wrong, all right, or some of them wrong.
+fn show_marked(rt: &impl Print) -> io::Result<()> {
+    show(rt, 1, 0xF00000000, 0xF00000000)?;
+    show(rt, 1, 0xE00000000, 0x080000000)?;
+    show(rt, 1, 0, 0xFE0000000)?;
+    show(rt, 1, 0x2E485A2D4, 0)?;
+    show(rt, 1, 0x2E485A2D4, 0x000020000)?;
+    show(rt, 1, 0x2E485A2D4, 0x000028000)?;
+    show(rt, 1, 0x2E485A2D4, 0x000000001)?;
+    show(rt, 3, 0x3003000065, 0xC000000003)?;
+    show(rt, 3, 0xF003000065, 0xC000000003)
+}
+
 // Words, marks and codes that are unfit.
 fn show_unfit(rt: &impl Print) -> io::Result<()> {
     show(rt, 1, 0x1000000000, 0)?;
@@ -198,6 +211,7 @@ fn show_unfit(rt: &impl Print) -> io::Result<()> {
 
 fn main(rt: HostRuntime) -> io::Result<()> {
     show_words(&rt)?;
+    show_marked(&rt)?;
     show_unfit(&rt)?;
     for code in 1..=4 {
         report(&rt, code)?;

@@ -87,6 +87,11 @@ impl Word {
         ones(((codeword ^ self.bits) | self.marks) ^ self.marks)
     }
 
+    // The marked positions where a codeword differs from the word: the codeword against the word's bits, under the marks.
+    pub(crate) fn marked_wrong(self, codeword: u64) -> u64 {
+        ones((codeword & self.marks) ^ (self.bits & self.marks))
+    }
+
     // Twice the wrong positions, and the marks: a codeword is near where this is at most 7.
     pub(crate) fn sum(self, codeword: u64) -> u64 {
         2 * self.wrong(codeword) + ones(self.marks)

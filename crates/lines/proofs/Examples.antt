@@ -7,6 +7,8 @@ use mathlib.Core.Path.{◌≡◌, refl, ap}
 use mathlib.Core.List.{[], ◌∷◌}
 use mathlib.Core.Option.{none, some}
 use Rattle.std.specs.Prelude.{Some}
+use Rattle.std.proofs.lemmas.Bool.{ne_eqb}
+use native.Mathlib.Omega.{arith}
 use lib.Dec.{lit<}
 use lib.ListN.{length}
 use borrow.Author.Tests.{lt-ltb}
@@ -38,7 +40,7 @@ abbrev π : Projection
 π = projection O36
 
 -- what mending finds in each written slot of the scope's file
-slot_0 : correct π 0x2E485A2D4 0 ≡ some (record { codeword = 0x2E48722D4; message = 305489; wrong = 2; marks = 0 })
+slot_0 : correct π 0x2E485A2D4 0 ≡ some (record { codeword = 0x2E48722D4; message = 305489; wrong = 2; marks = 0; marked_wrong = 0 })
 unfolding is_codeword decode
 slot_0 = near_correct O36 0x2E485A2D4 0 0x2E48722D4 (record { fits = lit< tt; codeword = refl; near = refl })
 
@@ -46,7 +48,7 @@ slot_2 : correct π 0x6CACFFF96 0 ≡ none
 unfolding is_codeword
 slot_2 = none_correct O36 0x6CACFFF96 0 (eight_is_far O36 0x6CACFFF96 0 0x9CACFFF96 (lit< tt, refl) refl)
 
-slot_3 : correct π 0x9CACFFF96 0 ≡ some (record { codeword = 0x9CACFFF96; message = 4095; wrong = 0; marks = 0 })
+slot_3 : correct π 0x9CACFFF96 0 ≡ some (record { codeword = 0x9CACFFF96; message = 4095; wrong = 0; marks = 0; marked_wrong = 0 })
 unfolding is_codeword decode
 slot_3 = near_correct O36 0x9CACFFF96 0 0x9CACFFF96 (record { fits = lit< tt; codeword = refl; near = refl })
 
@@ -66,7 +68,7 @@ unfolding
 example_survey = rw (slot_0, slot_2, slot_3)
 
 -- what mending finds in the slot that is under
-slot_under : correct π 0 0 ≡ some (record { codeword = 0; message = 0; wrong = 0; marks = 0 })
+slot_under : correct π 0 0 ≡ some (record { codeword = 0; message = 0; wrong = 0; marks = 0; marked_wrong = 0 })
 unfolding is_codeword decode
 slot_under = near_correct O36 0 0 0 (record { fits = lit< tt; codeword = refl; near = refl })
 
@@ -84,7 +86,13 @@ other_listings = record { long = λ file h. rw (lt-ltb 65536 (length file) h); n
 
 pub listed_numbers : ListedNumbers
 unfolding status_of slot_line ending noted each decimal digits
-listed_numbers = record { read = refl; over = refl; under = refl; total = refl }
+listed_numbers =
+    record {
+      read = λ slot v low high. rw (ne_eqb v.reading 0 (λ e. omega arith), lt-ltb v.reading 4095 high);
+      over = λ slot v e. rw e;
+      under = λ slot v e. rw e;
+      total = refl;
+    }
 
 pub example_report : ExampleReport
 unfolding example_file survey_file report status_line noted each decimal digits

@@ -49,7 +49,7 @@ unfolding noted
 noted_short t ns note h = simp length-append (omega (arith, spaced_short ns h))
 
 -- the line of a few values
-pub values_short : (ns : List ℕ) → ((i : ℕ) → Word (get_or ns i 0)) → length ns ≤ 4 → length (line (text "ok") ns) ≤ 87
+pub values_short : (ns : List ℕ) → ((i : ℕ) → Word (get_or ns i 0)) → length ns ≤ 5 → length (line (text "ok") ns) ≤ 108
 values_short ns h few = omega (arith, noted_short (text "ok") ns [] (all_words ns h))
 
 pub refused_short : (n : ℕ) → Word n → length (refused_line n) ≤ 29
@@ -73,11 +73,11 @@ hexes_short k bytes = omega (arith, each_short hex 2 (λ n. omega arith) (take k
 -- ---- a listing
 
 -- what follows a slot, by its status
-ending_short : (s : Status) (v : Reading) → AllOf Word (reading_values v) → length (line (status_word s) (status_values s v)) ≤ 90
+ending_short : (s : Status) (v : Reading) → AllOf Word (reading_values v) → length (line (status_word s) (status_values s v)) ≤ 111
 ending_short Status.Blank v h = omega (arith, noted_short (status_word Status.Blank) [] [] tt)
 ending_short Status.Read v h = noted_short _ (reading_values v) [] h
-ending_short Status.Over v h = omega (arith, noted_short (status_word Status.Over) (status_values Status.Over v) [] (h.0, (h.1.1.0, h.1.1.1)))
-ending_short Status.Under v h = omega (arith, noted_short (status_word Status.Under) (status_values Status.Under v) [] (h.0, (h.1.1.0, h.1.1.1)))
+ending_short Status.Over v h = omega (arith, noted_short (status_word Status.Over) (status_values Status.Over v) [] (h.0, h.1.1))
+ending_short Status.Under v h = omega (arith, noted_short (status_word Status.Under) (status_values Status.Under v) [] (h.0, h.1.1))
 ending_short Status.Lost v h = omega (arith, noted_short (status_word Status.Lost) [] [] tt)
 ending_short Status.Bad v h = omega (arith, noted_short (status_word Status.Bad) [] [] tt)
 
@@ -90,7 +90,7 @@ word_short Status.Lost = omega arith
 word_short Status.Bad = omega arith
 
 pub slot_short : (slot : ℕ) → Word slot → (answer : Result Reading Refusal) → IfOk answer (λ v. AllOf Word (reading_values v))
-    → length (slot_line slot (read_answer answer)) ≤ 110
+    → length (slot_line slot (read_answer answer)) ≤ 131
 unfolding slot_line ending
 slot_short slot h (Ok v) fit =
     simp length-append (omega (arith, decimal_short slot h, ending_short (status_of (accepted v)) v fit))

@@ -1,11 +1,12 @@
 -- What is claimed of the texts that the programs print. Each claim is a theorem of the same name, in lower case, in proofs/.
 use Rattle.std.specs.Prelude.{◌≡◌, List, [], ◌∷◌, ◌++◌, ℕ, ◌<◌, ◌≤◌, length, replicate, Some, Ok}
 use Rattle.codes.specs.Answer.{accepted, map_answer}
+use Rattle.trace.specs.declared.answer.Reading.{Reading}
 use Rattle.trace.specs.declared.answer.Survey.{Survey}
 use Rattle.trace.specs.Answers.{load_answer, reading_values}
 use Rattle.trace.specs.Trace.{alone_in, survey_in}
 use Rattle.lines.specs.declared.trouble.Trouble.{Trouble}
-use Rattle.lines.specs.Text.{text}
+use Rattle.lines.specs.Text.{text, decimal, line}
 use Rattle.lines.specs.Listing.{slot_line, total_line, listing}
 use Rattle.lines.specs.Answers.{answer_line, survey_line, bytes_line}
 use Rattle.lines.specs.Trouble.{most_shown, shown, trouble_line}
@@ -22,9 +23,10 @@ example_file =
     ++ ((0x01 ∷ 0x09 ∷ 0xCA ∷ 0xCF ∷ 0xFF ∷ 0x96 ∷ replicate 5 0)
     ++ (0x00 ∷ 0x00 ∷ 0x00 ∷ 0x2C ∷ 0x00 ∷ 0x04 ∷ 0x01 ∷ 0x01 ∷ []))))
 
--- they 'print' the scope's listing, from its bytes to its text, where now 'The total line has under after over'
+-- they 'print' the scope's listing, from its bytes to its text, where now 'The total line has under after over' and 'Each listing line of read,
+-- over or under ends with' how many marked bits were wrong
 abbrev pub Example : Type 0
-Example = listing example_file ≡ text "0 read 74 2385 2 0\n1 blank\n2 lost\n3 over 0 0 0\ntotal 4 1 1 1 0 1 0\n"
+Example = listing example_file ≡ text "0 read 74 2385 2 0 0\n1 blank\n2 lost\n3 over 0 0 0 0\ntotal 4 1 1 1 0 1 0\n"
 
 -- a slot whose state is neither 0 nor 1, alone in its file
 unfoldable pub bad_file : List ℕ
@@ -39,14 +41,19 @@ pub record OtherListings : Type 0 where
   pub long : (file : List ℕ) → 65536 < length file → listing file ≡ text "refused 7\n"
   pub none : listing [] ≡ text "refused 7\n"
   pub zeros : listing (replicate 8 0) ≡ text "refused 8\n"
-  pub under : listing under_file ≡ text "0 under 0 0 0\ntotal 1 0 0 0 1 0 0\n"
+  pub under : listing under_file ≡ text "0 under 0 0 0 0\ntotal 1 0 0 0 1 0 0\n"
   pub bad : listing bad_file ≡ text "0 bad\ntotal 1 0 0 0 0 0 1\n"
 
--- lines whose numbers tell their places apart
+-- 'A line is slot and status, then step, reading, wrong, marks for read; step, wrong, marks for over'; 'the listing prints under as it prints over';
+-- 'Each listing line of read, over or under ends with' how many marked bits were wrong: whatever slot and reading. And a total line whose numbers tell
+-- their places apart
 pub record ListedNumbers : Type 0 where
-  pub read : slot_line 8 (accepted (record { step = 7; reading = 4094; wrong = 1; marks = 2 })) ≡ text "8 read 7 4094 1 2\n"
-  pub over : slot_line 9 (accepted (record { step = 7; reading = 4095; wrong = 1; marks = 2 })) ≡ text "9 over 7 1 2\n"
-  pub under : slot_line 10 (accepted (record { step = 7; reading = 0; wrong = 1; marks = 2 })) ≡ text "10 under 7 1 2\n"
+  pub read : (slot : ℕ) (v : Reading) → 0 < v.reading → v.reading < 4095
+      → slot_line slot (accepted v) ≡ decimal slot ++ line (text " read") (v.step ∷ v.reading ∷ v.wrong ∷ v.marks ∷ v.marked_wrong ∷ [])
+  pub over : (slot : ℕ) (v : Reading) → v.reading ≡ 4095
+      → slot_line slot (accepted v) ≡ decimal slot ++ line (text " over") (v.step ∷ v.wrong ∷ v.marks ∷ v.marked_wrong ∷ [])
+  pub under : (slot : ℕ) (v : Reading) → v.reading ≡ 0
+      → slot_line slot (accepted v) ≡ decimal slot ++ line (text " under") (v.step ∷ v.wrong ∷ v.marks ∷ v.marked_wrong ∷ [])
   pub total : total_line 27 (record { blank = 7; read = 6; over = 5; under = 4; lost = 3; bad = 2 }) ≡ text "total 27 7 6 5 4 3 2\n"
 
 -- ---- reports
@@ -106,12 +113,12 @@ pub record OtherReports : Type 0 where
 pub record AnswerLines : Type 0 where
   pub done : answer_line (accepted []) ≡ text "ok\n"
   pub load : answer_line (load_answer (Ok 2165703038)) ≡ text "ok 2165703038\n"
-  pub read : answer_line (map_answer reading_values (alone_in example_file 0)) ≡ text "ok 74 2385 2 0\n"
+  pub read : answer_line (map_answer reading_values (alone_in example_file 0)) ≡ text "ok 74 2385 2 0 0\n"
   pub blank : answer_line (map_answer reading_values (alone_in example_file 1)) ≡ text "refused 11\n"
   pub lost : answer_line (map_answer reading_values (alone_in example_file 2)) ≡ text "refused 5\n"
   pub survey : survey_line (survey_in example_file) ≡ text "ok 1 1 1 0 1 0 2385 2385 2385 2385\n"
   pub numbers : survey_line (accepted many_numbers) ≡ text "ok 4 6 1 5 2 3 8112 1310 1409 1352\n"
-  pub zero : answer_line (map_answer reading_values (alone_in under_file 0)) ≡ text "ok 0 0 0 0\n"
+  pub zero : answer_line (map_answer reading_values (alone_in under_file 0)) ≡ text "ok 0 0 0 0 0\n"
   pub under : survey_line (survey_in under_file) ≡ text "ok 0 0 0 1 0 0 0 - - -\n"
   pub absent : survey_line (survey_in bad_file) ≡ text "ok 0 0 0 0 0 1 0 - - -\n"
   pub refused : survey_line (survey_in []) ≡ text "refused 7\n"

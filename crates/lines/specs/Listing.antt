@@ -25,12 +25,13 @@ status_name Status.Bad = text "bad"
 abbrev pub status_word : Status → List ℕ
 status_word s = text " " ++ status_name s
 
--- '.. then step, reading, wrong, marks for read; step, wrong, marks for over'; 'the listing prints under as it prints over'
+-- '.. then step, reading, wrong, marks for read; step, wrong, marks for over'; 'the listing prints under as it prints over'; 'Each listing line of read,
+-- over or under ends with' how many marked bits were wrong
 abbrev pub status_values : Status → Reading → List ℕ
 status_values Status.Blank v = []
 status_values Status.Read v = reading_values v
-status_values Status.Over v = v.step ∷ v.wrong ∷ v.marks ∷ []
-status_values Status.Under v = v.step ∷ v.wrong ∷ v.marks ∷ []
+status_values Status.Over v = v.step ∷ v.wrong ∷ v.marks ∷ v.marked_wrong ∷ []
+status_values Status.Under v = v.step ∷ v.wrong ∷ v.marks ∷ v.marked_wrong ∷ []
 status_values Status.Lost v = []
 status_values Status.Bad v = []
 

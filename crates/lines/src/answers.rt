@@ -18,7 +18,7 @@ pub const ANSWER: usize = 2 * LONGEST + 1;
 // The line of a few values.
 #[tactic(auto, using(crate::proofs::Lengths::refused_short))]
 fn values_line<const N: usize>(answer: Result<[u64; N], Refusal>) -> ArrayString<ANSWER>
-    requires { N ≤ 4 }
+    requires { N ≤ 5 }
     ensures { result.bytes ≡ answer_line (values_answer answer.entry) }
 {
     let mut out = ArrayString::new();
@@ -54,7 +54,7 @@ pub fn load_line(answer: Result<u32, Refusal>) -> ArrayString<ANSWER>
     ))
 }
 
-// The line of a read: step, reading, wrong, marks.
+// The line of a read: step, reading, wrong, marks, marked wrong.
 pub fn read_line(answer: Result<Reading, Refusal>) -> ArrayString<ANSWER>
     ensures { result.bytes ≡ answer_line (map_answer reading_values (read_answer answer)) }
 {

@@ -59,7 +59,10 @@ fn write_ending<const N: usize>(out: &mut ArrayString<N>, answer: Result<Reading
     out.push_str(" ");
     match answer {
         Ok(v) if status.is_read() => write_line(out, status_name(status), &v.values()),
-        Ok(v) => write_line(out, status_name(status), &[v.step, v.wrong, v.marks]),
+        Ok(v) => {
+            let numbers = [v.step, v.wrong, v.marks, v.marked_wrong];
+            write_line(out, status_name(status), &numbers)
+        }
         Err(_) => write_line(out, status_name(status), &[]),
     }
 }

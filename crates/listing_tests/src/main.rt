@@ -54,15 +54,22 @@ fn free_bytes() -> Result<[u8; 49], Refusal> {
     Ok(file)
 }
 
-// The readings at both ends of the range, which are no pressures, and those beside them; the lowest is mended.
+// The readings at both ends of the range, which are no pressures, and those beside them; the lowest and the highest are mended, with one wrong bit
+// that is not marked and three marks, of which two are on wrong bits.
 fn ends_of_range() -> Result<[u8; 63], Refusal> {
     let mut file = [0; 63];
     trace::make(&mut file, 1, 5)?;
     for (slot, reading) in [(0, 0), (1, 1), (2, 4094), (3, 4095)] {
         trace::put(&mut file, slot, 3, reading)?;
     }
-    trace::flip(&mut file, 0, 0)?;
-    trace::mark(&mut file, 0, 1)?;
+    for slot in [0, 3] {
+        for position in [0, 1, 2] {
+            trace::flip(&mut file, slot, position)?;
+        }
+        for position in [1, 2, 3] {
+            trace::mark(&mut file, slot, position)?;
+        }
+    }
     Ok(file)
 }
 

@@ -78,9 +78,9 @@ pub extern "C" fn mizbulett_clear(buf: &mut [u8], slot: u64) -> u64
     number(trace::clear(buf, slot))
 }
 
-// Mends a slot, and writes step, reading, wrong and marks. Refusals 7 to 11, then 5.
+// Mends a slot, and writes step, reading, wrong, marks and marked wrong. Refusals 7 to 11, then 5.
 #[unsafe(no_mangle)]
-pub extern "C" fn mizbulett_read(buf: &[u8], slot: u64, out: &mut [u64; 4]) -> u64
+pub extern "C" fn mizbulett_read(buf: &[u8], slot: u64, out: &mut [u64; 5]) -> u64
     ensures { returned result out.new ≡ returns (on_bytes (read slot) buf.now).answer out.old }
 {
     give(trace::read(buf, slot).map(Reading::values), out)

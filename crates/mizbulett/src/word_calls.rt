@@ -25,16 +25,16 @@ pub extern "C" fn mizbulett_decode(code: u64, word: u64, out: &mut [u64; 1]) -> 
     give(message.map(lone), out)
 }
 
-// Of a correction: the near codeword, its message, how many positions were wrong, and the number of marks.
-fn values(c: Correction) -> [u64; 4]
+// Of a correction: the near codeword, its message, how many positions were wrong, the number of marks, and how many marked positions were wrong.
+fn values(c: Correction) -> [u64; 5]
     ensures { result ≡ correction_values c }
 {
-    [c.codeword, c.message, c.wrong, c.marks]
+    [c.codeword, c.message, c.wrong, c.marks, c.marked_wrong]
 }
 
-// Writes the near codeword, its message, how many positions were wrong, and the number of marks. Refusals 1, 3 and 5.
+// Writes the near codeword, its message, how many positions were wrong, the number of marks, and how many marked positions were wrong. Refusals 1, 3 and 5.
 #[unsafe(no_mangle)]
-pub extern "C" fn mizbulett_correct(code: u64, word: u64, marks: u64, out: &mut [u64; 4]) -> u64
+pub extern "C" fn mizbulett_correct(code: u64, word: u64, marks: u64, out: &mut [u64; 5]) -> u64
     ensures { returned result out.new ≡ returns (under code (λ π. correcting π word marks)) out.old }
 {
     let correction = codes::correct(code, word, marks).map_err(Refusal::from);

@@ -12,7 +12,7 @@
 //     mark 0 35          slot, position
 //     load 0 1 3         slot, seed, count: `ok` with the number handed back
 //     clear 2            slot
-//     read 0             slot: `ok` with step, reading, wrong, marks
+//     read 0             slot: `ok` with step, reading, wrong, marks, marked wrong
 //     survey             `ok` with blank, read, over, under, lost, bad, sum, smallest, largest, mean; `-` for what is absent
 //     bytes              the lent bytes, in hexadecimal
 //

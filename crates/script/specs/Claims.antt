@@ -155,7 +155,7 @@ pub record CallsAnswer : Type 0 where
       ≡ says "ok 2165703038\n" (example_bytes (1 ∷ 0 ∷ 0 ∷ 0x18 ∷ 0 ∷ 7 ∷ 0 ∷ 0 ∷ 0 ∷ 0 ∷ 8 ∷ []))
   pub too_many : answered (Call.Load 0 1 37) (example_bytes (slot_with 5 8)) ≡ says "refused 14\n" (example_bytes (slot_with 5 8))
   pub clear : answered (Call.Clear 0) (example_bytes (slot_with 5 8)) ≡ says "ok\n" (example_bytes blank_slot)
-  pub read : answered (Call.Read 0) example_file ≡ says "ok 74 2385 2 0\n" example_file
+  pub read : answered (Call.Read 0) example_file ≡ says "ok 74 2385 2 0 0\n" example_file
   pub blank : answered (Call.Read 1) example_file ≡ says "refused 11\n" example_file
   pub survey : answered Call.Survey example_file ≡ says "ok 1 1 1 0 1 0 2385 2385 2385 2385\n" example_file
   pub puts : answered_list 0 (74 ∷ []) (2385 ∷ []) (example_bytes blank_slot)

@@ -1,7 +1,7 @@
 -- The theorems of specs/Claims.antt, each from the file that proves it.
 pub use Rattle.trace.proofs.Demand1.{demand1}
 pub use Rattle.trace.proofs.Demand2.{demand2}
-pub use Rattle.trace.proofs.Demand3.{demand3, plain_never_meets}
+pub use Rattle.trace.proofs.Demand3.{demand3, plain_reads, plain_never_meets}
 pub use Rattle.trace.proofs.Strength.{demand3_shuts_out}
 pub use Rattle.trace.proofs.Makings.{makes}
 pub use Rattle.trace.proofs.LayoutExamples.{layout_example}

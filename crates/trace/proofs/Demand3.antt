@@ -22,7 +22,7 @@ use Rattle.trace.specs.View.{message_of, read_corrected, read_content}
 use Rattle.trace.specs.Rules.{refusals, gives}
 use Rattle.trace.specs.Trace.{on_bytes, make}
 use Rattle.trace.specs.Plain.{Slot, Plain, projection_of, slot_of, view_of, bytes, fresh, plain_leaves, on_plain}
-use Rattle.trace.specs.Claims.{MakeFit, ReadAfter, bytes_after, plain_after, Demand3, PlainNeverMeets}
+use Rattle.trace.specs.Claims.{MakeFit, ReadAfter, bytes_after, plain_after, Demand3, PlainReads, PlainNeverMeets}
 use Rattle.trace.proofs.Among.{among_apart}
 use Rattle.trace.proofs.Outcomes.{outcome_same, outcome_refused}
 use Rattle.trace.proofs.Runs.{imaged_run}
@@ -103,6 +103,11 @@ demand3 found m cs fit =
           let given = read_written p slot (message_of step reading) F M e in
           rw (left, step_same (read slot) p kept.sound, rw kept.code at given) (read_after (code_of m.code) step reading F M r fits.0);
     }
+
+pub plain_reads : PlainReads
+unfolding read_corrected
+plain_reads p slot m F M x e near =
+    rw (read_written p slot m F M e, near_correct (code_of p.code) (bit_xor (encode (projection_of p) m) F) M x near)
 
 pub plain_never_meets : PlainNeverMeets
 unfolding on_plain

@@ -1,11 +1,11 @@
 -- What is claimed of a trace, in the words of the demands, of the scope and of the requests, which docs/CLAIMS.md has in full. Each claim is a
 -- theorem of the same name, in lower case, in proofs/.
-use Rattle.std.specs.Prelude.{◌≡◌, ℕ, zero, suc, ◌+◌, ◌-◌, ◌*◌, ◌^◌, ◌<◌, ◌≤◌, true, ◌⊎◌, ◌↔◌, List, [], ◌∷◌, ◌++◌, map, length, replicate, ◌≢◌, bit_xor, slice_index, Option, None, Some}
+use Rattle.std.specs.Prelude.{◌≡◌, ℕ, zero, suc, ◌+◌, ◌-◌, ◌*◌, ◌/◌, ◌%◌, ◌^◌, ◌<◌, ◌≤◌, true, ◌⊎◌, ◌↔◌, List, [], ◌∷◌, ◌++◌, map, length, replicate, ◌≢◌, bit_xor, slice_index, Option, None, Some}
 use Rattle.codes.specs.Answer.{Answer, accepted, refused, map_answer, Row, Passes, Refuses}
 use Rattle.codes.specs.Projection.{Projection, width}
 use Rattle.codes.specs.Word.{word, bit_at}
-use Rattle.codes.specs.Message.{encode}
-use Rattle.codes.specs.Correction.{outside, ones, Near, correction_of}
+use Rattle.codes.specs.Message.{encode, decode}
+use Rattle.codes.specs.Correction.{outside, wrong, inside, marked_wrong, ones, Near}
 use Rattle.codes.specs.Claims.{RoundTrip, OneMessage, DecodesCodewords, CallsRoundTrip, EightApart, OneNear, EightIsFar, CorrectsNear, RefusesFar}
 use Rattle.codes.specs.Claims.{Among, ByTable, WordCallsRefuse, WordRowsMean}
 use Rattle.codes.specs.declared.code.Code.{Code}
@@ -21,7 +21,7 @@ use Rattle.trace.specs.Calls.{Call, put, put_list, flip, mark, load, clear, read
 use Rattle.trace.specs.Load.{positions_of, handed_back}
 use Rattle.trace.specs.Refusals.{is_count, wrong_count, too_short, trailer_unfit, no_slot, bad_slot, blank_slot, lost_slot}
 use Rattle.trace.specs.Refusals.{no_position, too_large, too_many, past_end, uneven, one_too_large}
-use Rattle.trace.specs.View.{content_of, reading_of}
+use Rattle.trace.specs.View.{content_of}
 use Rattle.trace.specs.Survey.{status_of, count, pressures, total, extremes}
 use Rattle.trace.specs.Trace.{content_with, projection_in, view_in, short, trailer_rows, refusals_in, stored, on_bytes, make_rows, make, alone_in, survey_in}
 use Rattle.trace.specs.Plain.{Slot, Plain, projection_of, slot_of, bytes, fresh, marked, on_plain}
@@ -132,19 +132,26 @@ pub record LayoutExample : Type 0 where
 abbrev pub unmarked : Projection → ℕ → ℕ → ℕ
 unmarked π F M = outside (word π F) (word π M)
 
+-- the bits that now differ and are marked are those in F and in M
+abbrev pub in_both : Projection → ℕ → ℕ → ℕ
+in_both π F M = inside (word π F) (word π M)
+
 abbrev pub sum : Projection → ℕ → ℕ → ℕ
 sum π F M = 2 * unmarked π F M + ones π M
+
+-- what the read of word w under marks M gives where x is the near codeword: its step and reading, and the three numbers counted against it
+abbrev pub near_values : Projection → ℕ → ℕ → ℕ → List ℕ
+near_values π w M x = decode π x / 4096 ∷ decode π x % 4096 ∷ wrong π w M x ∷ ones π M ∷ marked_wrong π w M x ∷ []
 
 -- what the read of a slot gives that has a step's and a reading's message, F and M; w is 'the message's codeword with F inverted'
 pub record ReadAfter (π : Projection) (step reading F M w : ℕ) (a : Answer (List ℕ)) : Type 0 where
   -- 'gives the step and reading last put there, and no other, while [the sum] is at most 7'
-  pub within : sum π F M ≤ 7
-      → a ≡ accepted (reading_values (record { step = step; reading = reading; wrong = unmarked π F M; marks = ones π M }))
+  pub within : sum π F M ≤ 7 → a ≡ accepted (step ∷ reading ∷ unmarked π F M ∷ ones π M ∷ in_both π F M ∷ [])
   -- 'Where that sum is exactly 8 the read refuses'
   pub eight : sum π F M ≡ 8 → a ≡ refused 5
   -- 'Beyond it, the read refuses exactly when no codeword is near, and otherwise gives the near one's step and reading'
   pub beyond : 8 < sum π F M → (a ≡ refused 5 ↔ ((x : ℕ) → Near π w M x → ⊥))
-  pub otherwise : 8 < sum π F M → (x : ℕ) → Near π w M x → a ≡ accepted (reading_values (reading_of (correction_of π w M x)))
+  pub otherwise : 8 < sum π F M → (x : ℕ) → Near π w M x → a ≡ accepted (near_values π w M x)
 
 -- what calls answer and leave of a buffer's bytes, rightly or wrongly
 abbrev pub Machine : Type 0
@@ -213,6 +220,14 @@ SurveyGives = (b : List ℕ) → (on_bytes survey b).answer ≡ map_answer surve
 -- '7, 8 and 10 are never met' by the plain trace
 abbrev pub PlainNeverMeets : Type 0
 PlainNeverMeets = (c : Call) (p : Plain) (n : ℕ) → (on_plain c p).answer ≡ refused n → Among n (7 ∷ 8 ∷ 10 ∷ []) → ⊥
+
+-- 'The plain trace gives the same number: the codeword against the stored bits under the marks', whatever the sum: the stored bits are the message's
+-- codeword with F inverted, and the codeword is the near one, x
+abbrev pub PlainReads : Type 0
+PlainReads =
+    (p : Plain) (slot m F M x : ℕ) → slot_of p slot ≡ Slot.written m F M
+    → Near (projection_of p) (bit_xor (encode (projection_of p) m) F) M x
+    → (on_plain (read slot) p).answer ≡ accepted (near_values (projection_of p) (bit_xor (encode (projection_of p) m) F) M x)
 
 -- ---- what calls make of the plain trace
 

@@ -29,9 +29,10 @@ content_of v slot = slice_index_or v.slots slot Content.Blank
 abbrev pub message_of : ℕ → ℕ → ℕ
 message_of step reading = step * 4096 + reading
 
--- 'Read mends and gives step, reading, wrong, marks'
+-- 'Read mends and gives step, reading, wrong, marks', and 'the number of marked positions where the stored bit differs from the codeword'
 abbrev pub reading_of : Correction → Reading
-reading_of c = record { step = c.message / 4096; reading = c.message % 4096; wrong = c.wrong; marks = c.marks }
+reading_of c =
+    record { step = c.message / 4096; reading = c.message % 4096; wrong = c.wrong; marks = c.marks; marked_wrong = c.marked_wrong }
 
 unfoldable pub read_corrected : Option Correction → Answer Reading
 read_corrected (some c) = accepted (reading_of c)

@@ -50,21 +50,29 @@ impl From<codes::Refusal> for Refusal {
     }
 }
 
-// A corrected message's step and reading, the unmarked positions that were wrong, and the number of marks.
+// A corrected message's step and reading, the number of unmarked positions that were wrong, that of the marks, and that of the marked positions that were
+// wrong.
 #[derive(Clone, Copy)]
 pub struct Reading {
     pub step: u64,
     pub reading: u64,
     pub wrong: u64,
     pub marks: u64,
+    pub marked_wrong: u64,
 }
 
 impl Reading {
-    // Step, reading, wrong, marks.
-    pub fn values(self) -> [u64; 4]
+    // Step, reading, wrong, marks, marked wrong.
+    pub fn values(self) -> [u64; 5]
         ensures { result ≡ reading_values self }
     {
-        [self.step, self.reading, self.wrong, self.marks]
+        [
+            self.step,
+            self.reading,
+            self.wrong,
+            self.marks,
+            self.marked_wrong,
+        ]
     }
 }
 

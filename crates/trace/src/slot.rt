@@ -93,6 +93,7 @@ fn read_word(code: Code, word: u64, marks: u64) -> Result<Reading, Refusal>
         reading: c.message % READINGS,
         wrong: c.wrong,
         marks: c.marks,
+        marked_wrong: c.marked_wrong,
     })
 }
 

@@ -25,10 +25,10 @@ impl Accepted for u32 {
 
 impl Accepted for Reading {
     fn show<W: Write>(&self, f: &mut Formatter<W>) -> fmt::Result {
-        let [step, reading, wrong, marks] = self.values();
+        let [step, reading, wrong, marks, marked_wrong] = self.values();
         write!(
             f,
-            "step {step}, reading {reading}, wrong {wrong}, marks {marks}"
+            "step {step}, reading {reading}, wrong {wrong}, marks {marks}, marked wrong {marked_wrong}"
         )
     }
 }

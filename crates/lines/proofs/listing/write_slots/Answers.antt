@@ -1,4 +1,4 @@
--- A slot's line has at most 110 bytes, since what a read answers are numbers of 64 bits.
+-- A slot's line has at most 131 bytes, since what a read answers are numbers of 64 bits.
 use Rattle.std.proofs.Common.{length, IfOk, arith, rules, ap, append_assoc, length-append, add-one}
 use Rattle.trace.specs.Answers.{reading_values}
 use Rattle.lines.specs.Listing.{slot_lines}

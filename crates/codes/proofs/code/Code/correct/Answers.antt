@@ -48,4 +48,4 @@ returns c =
     let x = c.in-Some.codeword in
     let message : c.message_in.result ≡ decode (projection a.self) c.in-Some.codeword = rw c.unpack-columns.ensures at c.message_in.ensures in
     let marks : c.ones-count.result ≡ ones (projection a.self) a.marks = c.ones-count.ensures π marks_fit in
-    cc (message, c.wrong.ensures, marks, near_answer a.self a.word a.marks word_fits marks_fit x c.in-Some.ensures)
+    cc (message, c.wrong.ensures, marks, c.marked_wrong.ensures, near_answer a.self a.word a.marks word_fits marks_fit x c.in-Some.ensures)

@@ -8,9 +8,8 @@ use Rattle.codes.proofs.correction.Marked.wrong.Goals as goal
 
 pub returns : goal.returns
 returns c =
-    let a = c.args in
-    let s = a.self in
-    let π = projection s.code in
+    let s = c.args.self in
     let n = width (projection s.code) in
-    c.ones.ensures π (xor_lt n _ s.marks (or_lt n _ s.marks (xor_lt n a.codeword s.word c.requires s.word_fits) s.marks_fit) s.marks_fit)
-    ∙ ones_wrong π s.word s.marks a.codeword
+    c.ones.ensures (projection s.code)
+    (xor_lt n _ s.marks (or_lt n _ s.marks (xor_lt n c.args.codeword s.word c.requires s.word_fits) s.marks_fit) s.marks_fit)
+    ∙ ones_wrong (projection s.code) s.word s.marks c.args.codeword
