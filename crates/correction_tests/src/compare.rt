@@ -1,4 +1,6 @@
 // The library's answers, compared with what the search found, and with what the calls say.
+ghost use Rattle.std.specs.Prelude.{◌≤◌, length};
+
 use crate::codewords::codeword;
 use crate::lists::{ALL, Left};
 use crate::search::{Near, Tried};
@@ -109,6 +111,8 @@ pub(crate) fn read_outcomes(code: u32, left: &[Left], tried: &[Tried]) -> [Outco
 }
 
 // How many of the outcomes are a certain one.
-pub(crate) fn count<T: PartialEq>(outcomes: &[T], wanted: &T) -> usize {
+pub(crate) fn count<T: PartialEq>(outcomes: &[T], wanted: &T) -> usize
+    ensures { result ≤ length outcomes.now }
+{
     outcomes.iter().filter(|outcome| *outcome == wanted).count()
 }

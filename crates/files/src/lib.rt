@@ -1,6 +1,8 @@
 // Files and standard input, read and written for the programs. Whatever fails is told apart from the end of a file, and gets a line on standard error that says why.
 #![tactic(auto)]
 
+ghost use Rattle.std.specs.Prelude.{IfOk, take};
+ghost use Rattle.std.specs.Io.KnownBytes.{Consumes};
 ghost use Rattle.files.specs.Files.{Within};
 
 use std::fs::{File, OpenFile};
@@ -20,13 +22,14 @@ fn fail(rt: &impl Eprint, name: &str, error: io::Error) -> Failed {
 }
 
 // Reads until a buffer is full or the input ends, and answers how many bytes it has then.
-fn read_all(
+fn read_all<R: Read>(
     rt: &impl Eprint,
-    reader: &mut impl Read,
+    reader: &mut R,
     name: &str,
     buf: &mut [u8],
 ) -> Result<usize, Failed>
-    ensures { Within buf.new result }
+    ensures within { Within buf.new result }
+    ensures bytes { IfOk result (λ end. Consumes (R.remaining reader.old) (R.remaining reader.new) (take end buf.new)) }
 {
     let mut end = 0;
     while end < buf.len() {

@@ -1,7 +1,7 @@
 // The input of a program.
 ghost use Rattle.std.specs.Prelude.{◌≡◌};
 ghost use Rattle.trace.specs.Answers.{survey_answer};
-ghost use Rattle.lines.specs.Input.{survey_file};
+ghost use Rattle.lines.specs.Input.{InputBuffer, read_into, survey_file};
 
 use trace::{Refusal, Survey};
 
@@ -10,6 +10,14 @@ pub const LONGEST: usize = 65536;
 
 // A buffer for an input has one byte more, so that a longer input is seen.
 pub const INPUT: usize = LONGEST + 1;
+
+// A file of which a program read `size` bytes into such a buffer. A size beyond the buffer counts as all of it, which is too long.
+pub fn file_in(input: &[u8; INPUT], size: usize) -> &[u8]
+    ensures input_buffer { InputBuffer input.now }
+    ensures file { result.now ≡ read_into input.now size }
+{
+    &input[..INPUT.min(size)]
+}
 
 // What a survey of a file answers; one that is too long is refused.
 #[tactic(auto, unfolding(crate::specs::Input::survey_file))]

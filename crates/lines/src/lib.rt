@@ -10,7 +10,7 @@ mod text;
 mod trouble;
 
 pub use answers::{ANSWER, bytes_line, done_line, load_line, number_line, read_line, survey_line};
-pub use input::{INPUT, LONGEST};
+pub use input::{INPUT, LONGEST, file_in};
 pub use listing::{TEXT, list};
 pub use reports::{REPORT, report};
 pub use trouble::{Trouble, trouble_line};

@@ -23,18 +23,17 @@ fn write_slots<const N: usize>(out: &mut ArrayString<N>, file: &[u8], slots: u64
     }
 }
 
-// The listing of a file.
+// The listing of a file, in place of what the string held.
 #[tactic(auto, using(crate::proofs::Inputs::slots_few, crate::proofs::Lengths::listing_lengths), unfolding(crate::specs::Listing::listing))]
-pub fn list(file: &[u8]) -> ArrayString<TEXT>
-    ensures { result.bytes ≡ listing file.now }
+pub fn list(file: &[u8], out: &mut ArrayString<TEXT>)
+    ensures { out.new.bytes ≡ listing file.now }
 {
-    let mut out = ArrayString::new();
+    out.clear();
     match survey_file(file) {
         Ok(survey) => {
-            write_slots(&mut out, file, survey.slots);
-            write_total(&mut out, survey.slots, survey.counts);
+            write_slots(out, file, survey.slots);
+            write_total(out, survey.slots, survey.counts);
         }
-        Err(refusal) => write_refused(&mut out, refusal.number()),
+        Err(refusal) => write_refused(out, refusal.number()),
     }
-    out
 }

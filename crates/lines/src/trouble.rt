@@ -93,10 +93,9 @@ fn write_trouble<const N: usize>(out: &mut ArrayString<N>, line: u64, trouble: T
 
 // The line of a script's line that can't be played.
 #[tactic(auto, using(crate::proofs::Lengths::trouble_short))]
-pub fn trouble_line(line: u64, trouble: Trouble, text: &[u8]) -> ArrayString<ANSWER>
-    ensures { result.bytes ≡ trouble_line line trouble text.now }
+pub fn trouble_line(line: u64, trouble: Trouble, text: &[u8], out: &mut ArrayString<ANSWER>)
+    ensures { out.new.bytes ≡ trouble_line line trouble text.now }
 {
-    let mut out = ArrayString::new();
-    write_trouble(&mut out, line, trouble, text);
-    out
+    out.clear();
+    write_trouble(out, line, trouble, text);
 }

@@ -4,12 +4,15 @@
 
 ghost use Rattle.std.specs.Prelude.{◌≤◌};
 
+use arrayvec::ArrayString;
 use std::io;
 use trace::Refusal;
 
 // Writes a file's listing.
 fn list(rt: &impl Print, file: &[u8]) -> io::Result<()> {
-    print!(rt; "{}", lines::list(file))
+    let mut text = ArrayString::new();
+    lines::list(file, &mut text);
+    print!(rt; "{text}")
 }
 
 // What calls made. None of them is refused here.
@@ -24,7 +27,7 @@ fn standard_input(rt: &(impl io::Input + Print + Eprint)) -> io::Result<()> {
     let Ok(size) = files::read_input(rt, &mut input) else {
         return Err(io::Error::other("standard input can't be read"));
     };
-    list(rt, &input[..size])
+    list(rt, lines::file_in(&input, size))
 }
 
 // Files that are too short for a trailer, or end with none.
@@ -102,7 +105,9 @@ fn statuses(code: u64, step: u64) -> Result<[u8; 96], Refusal> {
 fn most_slots(rt: &impl Print) -> io::Result<()> {
     let mut file = [0u8; 44008];
     made(trace::make(&mut file, 4, 4000))?;
-    println!(rt; "4000 slots: bytes listed {}", lines::list(&file).len())
+    let mut text = ArrayString::new();
+    lines::list(&file, &mut text);
+    println!(rt; "4000 slots: bytes listed {}", text.len())
 }
 
 fn main(rt: HostRuntime) -> io::Result<()> {

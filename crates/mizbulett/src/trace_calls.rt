@@ -90,7 +90,7 @@ pub extern "C" fn mizbulett_read(buf: &[u8], slot: u64, out: &mut [u64; 5]) -> u
 fn flagged(s: Survey) -> [u64; 11]
     ensures { result ≡ survey_flagged s }
 {
-    let [blank, read, over, under, lost, bad, sum] = s.values();
+    let [blank, read, over, under, lost, bad, sum] = s.counts_and_sum();
     let (present, [smallest, largest, mean]) = match s.pressures {
         Some(p) => (1, p.values()),
         None => (0, [0; 3]),

@@ -1,26 +1,13 @@
 // Answers as numbers.
 ghost use Rattle.std.specs.Prelude.{◌≡◌, ◌∷◌, length};
-ghost use Rattle.trace.specs.Answers.{survey_values};
 ghost use Rattle.replay.specs.Numbers.{answer_numbers};
 ghost use Rattle.replay.specs.ContractsOfSteps.{answer_of, Writes};
 
 use arrayvec::ArrayVec;
-use trace::{Refusal, Survey};
+use trace::Refusal;
 
 // The values of an answer: at most the ten of a survey.
 pub(crate) type Values = ArrayVec<u64, 10>;
-
-// Of a survey: the counts and the sum, then smallest, largest and mean where they are present.
-pub(crate) fn survey_values(s: Survey) -> Values
-    ensures { result.items ≡ survey_values s }
-{
-    let mut values = Values::new();
-    values.try_extend_from_slice(&s.values()).unwrap();
-    if let Some(p) = s.pressures {
-        values.try_extend_from_slice(&p.values()).unwrap();
-    }
-    values
-}
 
 // Writes a number, the count of values and the values to the front of a slice, where it has room, and answers how many numbers they are.
 fn write_numbers(out: &mut [u64], number: u64, values: &[u64]) -> Option<usize>

@@ -23,8 +23,9 @@
 mod buffer;
 mod play;
 
+use arrayvec::ArrayString;
 use buffer::Buffer;
-use lines::{LONGEST, Trouble};
+use lines::{ANSWER, LONGEST, Trouble};
 use play::{Line, play, print_trouble};
 use script::Held;
 use std::io;
@@ -38,6 +39,8 @@ struct Progress {
     number: u64,
     // The bytes that are lent.
     buffer: Buffer,
+    // The last answer: each is written in place of the one before it.
+    answer: ArrayString<ANSWER>,
 }
 
 // Plays the line that is held, and begins the next one.
@@ -49,11 +52,14 @@ fn play_held(rt: &(impl Files + Print + Eprint), p: &mut Progress) {
                 number,
                 text: text.as_slice(),
             };
-            play(rt, line, &mut p.buffer);
+            play(rt, line, &mut p.buffer, &mut p.answer);
         }
-        None => print_trouble(rt, number, Trouble::Unreadable, b"more than 200000 bytes"),
+        None => {
+            let reason = b"more than 200000 bytes";
+            print_trouble(rt, number, Trouble::Unreadable, reason, &mut p.answer);
+        }
     }
-    p.held = Held::new();
+    p.held.clear();
     p.number = number.saturating_add(1);
 }
 
@@ -75,7 +81,7 @@ fn take_input(rt: &(impl io::Input + Files + Print + Eprint), p: &mut Progress) 
     for _ in 0..u64::MAX {
         let Ok(n) = files::read_next(rt, &mut input) else {
             // What is held is no whole line.
-            p.held = Held::new();
+            p.held.clear();
             return;
         };
         if n == 0 {
@@ -90,6 +96,7 @@ fn main(rt: HostRuntime) {
         held: Held::new(),
         number: 1,
         buffer: Buffer::new(),
+        answer: ArrayString::new(),
     };
     take_input(&rt, &mut progress);
     // The last line may be without a newline.

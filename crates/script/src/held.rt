@@ -33,6 +33,16 @@ impl Held {
         }
     }
 
+    // Lets go of what is taken. Only a line that was too long is made anew, since that takes as long as the longest line does.
+    pub fn clear(&mut self)
+        ensures { option_map (λ l. l.items) self.new.line ≡ Some [] }
+    {
+        match &mut self.line {
+            Some(line) => line.clear(),
+            None => *self = Held::new(),
+        }
+    }
+
     // Takes one more byte.
     pub fn hold(&mut self, byte: u8)
         ensures { option_map (λ l. l.items) self.new.line ≡ hold byte (option_map (λ l. l.items) self.old.line) }

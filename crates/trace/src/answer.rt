@@ -1,7 +1,9 @@
 // What the trace calls answer.
 ghost use Rattle.std.specs.Prelude.{◌≡◌};
-ghost use Rattle.trace.specs.Answers.{refusal_number, reading_values, counts_values, three_values, counts_and_sum};
+ghost use Rattle.trace.specs.Answers.{refusal_number, reading_values, counts_values, three_values, counts_and_sum, survey_values};
 ghost use Rattle.trace.specs.declared.answer.Refusal.TheVariants.{Word};
+
+use arrayvec::ArrayVec;
 
 // Why a call is refused: as a word call is, or for a reason of the trace's own.
 #[derive(Clone, Copy, Debug, PartialEq, Eq)]
@@ -126,10 +128,24 @@ pub struct Survey {
 
 impl Survey {
     // The counts, then the sum.
-    pub fn values(self) -> [u64; 7]
+    pub fn counts_and_sum(self) -> [u64; 7]
         ensures { result ≡ counts_and_sum self }
     {
         let [blank, read, over, under, lost, bad] = self.counts.values();
         [blank, read, over, under, lost, bad, self.sum]
+    }
+
+    // The counts and the sum, then smallest, largest and mean where they are present.
+    pub fn values(self) -> ArrayVec<u64, 10>
+        ensures { result.items ≡ survey_values self }
+    {
+        let mut values = ArrayVec::new();
+        values
+            .try_extend_from_slice(&self.counts_and_sum())
+            .unwrap();
+        if let Some(pressures) = self.pressures {
+            values.try_extend_from_slice(&pressures.values()).unwrap();
+        }
+        values
     }
 }

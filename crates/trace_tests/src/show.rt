@@ -35,7 +35,7 @@ impl Accepted for Reading {
 
 impl Accepted for Survey {
     fn show<W: Write>(&self, f: &mut Formatter<W>) -> fmt::Result {
-        let [blank, read, over, under, lost, bad, sum] = self.values();
+        let [blank, read, over, under, lost, bad, sum] = self.counts_and_sum();
         write!(
             f,
             "blank {blank}, read {read}, over {over}, under {under}, lost {lost}, bad {bad}, sum {sum}, "
