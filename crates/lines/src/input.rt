@@ -11,7 +11,8 @@ pub const LONGEST: usize = 65536;
 // A buffer for an input has one byte more, so that a longer input is seen.
 pub const INPUT: usize = LONGEST + 1;
 
-// A file of which a program read `size` bytes into such a buffer. A size beyond the buffer counts as all of it, which is too long.
+// A file of which `size` bytes were read into such a buffer, which its type and this contract hold to its size. A size beyond the buffer counts as all of it,
+// which is too long.
 pub fn file_in(input: &[u8; INPUT], size: usize) -> &[u8]
     ensures input_buffer { InputBuffer input.now }
     ensures file { result.now ≡ read_into input.now size }

@@ -2,9 +2,10 @@
 ghost use Rattle.std.specs.Prelude.{◌≡◌, ◌++◌, ◌+◌, ◌*◌, ◌≤◌};
 ghost use Rattle.arrayvec.specs.ArrayString.{array_string_len};
 ghost use Rattle.trace.specs.Trace.{alone_in};
+ghost use Rattle.lines.specs.Input.{InputBuffer, read_into};
 ghost use Rattle.lines.specs.Listing.{slot_lines, listing};
 
-use crate::input::survey_file;
+use crate::input::{INPUT, file_in, survey_file};
 use crate::line::{write_refused, write_slot, write_total};
 use arrayvec::ArrayString;
 
@@ -23,11 +24,13 @@ fn write_slots<const N: usize>(out: &mut ArrayString<N>, file: &[u8], slots: u64
     }
 }
 
-// The listing of a file, in place of what the string held.
+// The listing of a file of which a program read `size` bytes into its buffer, in place of what the string held.
 #[tactic(auto, using(crate::proofs::Inputs::slots_few, crate::proofs::Lengths::listing_lengths), unfolding(crate::specs::Listing::listing))]
-pub fn list(file: &[u8], out: &mut ArrayString<TEXT>)
-    ensures { out.new.bytes ≡ listing file.now }
+pub fn list(input: &[u8; INPUT], size: usize, out: &mut ArrayString<TEXT>)
+    ensures input_buffer { InputBuffer input.now }
+    ensures text { out.new.bytes ≡ listing (read_into input.now size) }
 {
+    let file = file_in(input, size);
     out.clear();
     match survey_file(file) {
         Ok(survey) => {

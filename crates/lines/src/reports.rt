@@ -1,10 +1,11 @@
 // The survey of a file in words.
 ghost use Rattle.std.specs.Prelude.{◌≡◌, ◌++◌};
 ghost use Rattle.trace.specs.Answers.{refusal_number};
+ghost use Rattle.lines.specs.Input.{InputBuffer, read_into};
 ghost use Rattle.lines.specs.Report.{report_line, pressure_lines, status_note, status_line, count_lines, refusal_note, report};
 ghost use Rattle.lines.specs.ContractsOfSteps.{HasRoom};
 
-use crate::input::survey_file;
+use crate::input::{INPUT, file_in, survey_file};
 use crate::line::{status_name, write_noted};
 use arrayvec::ArrayString;
 use trace::{Counts, Pressures, Refusal, Status};
@@ -83,13 +84,14 @@ fn refusal_note(refusal: Refusal) -> &'static str
     }
 }
 
-// The report of a file.
+// The report of a file of which a program read `size` bytes into its buffer.
 #[tactic(auto, using(crate::proofs::Lengths::report_lengths), unfolding(crate::specs::Report::report))]
-pub fn report(file: &[u8]) -> ArrayString<REPORT>
-    ensures { result.bytes ≡ report file.now }
+pub fn report(input: &[u8; INPUT], size: usize) -> ArrayString<REPORT>
+    ensures input_buffer { InputBuffer input.now }
+    ensures text { result.bytes ≡ report (read_into input.now size) }
 {
     let mut out = ArrayString::new();
-    match survey_file(file) {
+    match survey_file(file_in(input, size)) {
         Ok(survey) => {
             write_pressures(&mut out, survey.pressures);
             write_counts(&mut out, survey.slots, survey.counts);

@@ -9,6 +9,6 @@ fn main(rt: HostRuntime) {
         return;
     };
     let mut text = ArrayString::new();
-    lines::list(lines::file_in(&input, size), &mut text);
+    lines::list(&input, size, &mut text);
     let _ = files::print(&rt, text.as_bytes());
 }

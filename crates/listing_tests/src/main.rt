@@ -5,13 +5,22 @@
 ghost use Rattle.std.specs.Prelude.{◌≤◌};
 
 use arrayvec::ArrayString;
+use lines::TEXT;
 use std::io;
 use trace::Refusal;
+
+// The listing of a file, which is copied into a buffer, as far as it fits.
+fn list_into(file: &[u8], text: &mut ArrayString<TEXT>) {
+    let mut input = [0u8; lines::INPUT];
+    let size = file.len().min(lines::INPUT);
+    input[..size].copy_from_slice(&file[..size]);
+    lines::list(&input, size, text);
+}
 
 // Writes a file's listing.
 fn list(rt: &impl Print, file: &[u8]) -> io::Result<()> {
     let mut text = ArrayString::new();
-    lines::list(file, &mut text);
+    list_into(file, &mut text);
     print!(rt; "{text}")
 }
 
@@ -27,7 +36,9 @@ fn standard_input(rt: &(impl io::Input + Print + Eprint)) -> io::Result<()> {
     let Ok(size) = files::read_input(rt, &mut input) else {
         return Err(io::Error::other("standard input can't be read"));
     };
-    list(rt, lines::file_in(&input, size))
+    let mut text = ArrayString::new();
+    lines::list(&input, size, &mut text);
+    print!(rt; "{text}")
 }
 
 // Files that are too short for a trailer, or end with none.
@@ -106,7 +117,7 @@ fn most_slots(rt: &impl Print) -> io::Result<()> {
     let mut file = [0u8; 44008];
     made(trace::make(&mut file, 4, 4000))?;
     let mut text = ArrayString::new();
-    lines::list(&file, &mut text);
+    list_into(&file, &mut text);
     println!(rt; "4000 slots: bytes listed {}", text.len())
 }
 

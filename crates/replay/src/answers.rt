@@ -1,13 +1,27 @@
 // Answers as numbers.
 ghost use Rattle.std.specs.Prelude.{◌≡◌, ◌∷◌, length};
+ghost use Rattle.trace.specs.Answers.{survey_values};
 ghost use Rattle.replay.specs.Numbers.{answer_numbers};
 ghost use Rattle.replay.specs.ContractsOfSteps.{answer_of, Writes};
 
 use arrayvec::ArrayVec;
-use trace::Refusal;
+use trace::{Refusal, Survey};
 
 // The values of an answer: at most the ten of a survey.
 pub(crate) type Values = ArrayVec<u64, 10>;
+
+// Of a survey: the counts and the sum, then smallest, largest and mean where they are present.
+pub(crate) fn survey_values(s: Survey) -> Values
+    ensures { result.items ≡ survey_values s }
+{
+    let (always, others) = s.values();
+    let mut values = Values::new();
+    values.try_extend_from_slice(&always).unwrap();
+    if let Some(others) = others {
+        values.try_extend_from_slice(&others).unwrap();
+    }
+    values
+}
 
 // Writes a number, the count of values and the values to the front of a slice, where it has room, and answers how many numbers they are.
 fn write_numbers(out: &mut [u64], number: u64, values: &[u64]) -> Option<usize>

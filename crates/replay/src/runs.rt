@@ -5,7 +5,7 @@ ghost use Rattle.trace.specs.Trace.{on_bytes};
 ghost use Rattle.replay.specs.ContractsOfSteps.{answer_of, call_of, least_room, KeepsOrFits, RunsCall};
 ghost use Rattle.replay.specs.Replay.{Replayed};
 
-use crate::answers::{Values, write_answer};
+use crate::answers::{Values, survey_values, write_answer};
 use crate::calls::{Call, next_call};
 use trace::Refusal;
 
@@ -51,7 +51,7 @@ fn run(b: &mut [u8], call: Call) -> Result<Values, Refusal>
             let v = trace::read(b, slot)?;
             values.try_extend_from_slice(&v.values()).unwrap();
         }
-        Call::Survey => values = trace::survey(b)?.values(),
+        Call::Survey => values = survey_values(trace::survey(b)?),
     }
     Ok(values)
 }

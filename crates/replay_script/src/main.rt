@@ -23,10 +23,9 @@
 mod buffer;
 mod play;
 
-use arrayvec::ArrayString;
 use buffer::Buffer;
-use lines::{ANSWER, LONGEST, Trouble};
-use play::{Line, play, print_trouble};
+use lines::{LONGEST, Trouble};
+use play::{Answer, Line, play, print_trouble};
 use script::Held;
 use std::io;
 use std::rt::Files;
@@ -40,7 +39,7 @@ struct Progress {
     // The bytes that are lent.
     buffer: Buffer,
     // The last answer: each is written in place of the one before it.
-    answer: ArrayString<ANSWER>,
+    answer: Answer,
 }
 
 // Plays the line that is held, and begins the next one.
@@ -96,7 +95,7 @@ fn main(rt: HostRuntime) {
         held: Held::new(),
         number: 1,
         buffer: Buffer::new(),
-        answer: ArrayString::new(),
+        answer: Answer::new(),
     };
     take_input(&rt, &mut progress);
     // The last line may be without a newline.

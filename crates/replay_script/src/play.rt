@@ -4,15 +4,15 @@ ghost use Rattle.script.specs.Lists.{most_numbers};
 
 use crate::buffer::Buffer;
 use arrayvec::ArrayString;
-use lines::{ANSWER, Trouble, done_line, file_in, number_line, trouble_line};
+use lines::{ANSWER, Trouble, done_line, number_line, trouble_line};
 use script::{
-    Call, Command, NUMBERS, Puts, answer, answer_list, argument, bare, lend, lend_bytes,
+    Call, Command, NUMBERS, Puts, answer, answer_list, argument, bare, lend, lend_input,
     parse_line, take_lists,
 };
 use std::rt::Files;
 
 // Where an answer is written.
-type Answer = ArrayString<ANSWER>;
+pub(crate) type Answer = ArrayString<ANSWER>;
 
 // What is asked for in vain.
 const TOO_MANY: &[u8] = b"more than 65536 bytes";
@@ -112,7 +112,7 @@ fn open(
         print_trouble(rt, number, Trouble::NotRead, name, out);
         return;
     };
-    let Ok(n) = lend_bytes(file_in(&input, size), &mut buffer.bytes) else {
+    let Ok(n) = lend_input(&input, size, &mut buffer.bytes) else {
         print_trouble(rt, number, Trouble::NotLent, TOO_MANY, out);
         return;
     };

@@ -1,11 +1,13 @@
 // The lines that lend bytes.
 ghost use Rattle.std.specs.Prelude.{◌≡◌, Some};
+ghost use Rattle.lines.specs.Input.{InputBuffer, read_into};
 ghost use Rattle.script.specs.Script.{hex_bytes};
 ghost use Rattle.script.specs.Lending.{zeros, line_lends, lending, lend_in, Fits};
 
 use crate::hex::{count_pairs, write_pairs};
 use crate::line::{Command, parse_line};
 use crate::parts::argument;
+use lines::{INPUT, file_in};
 
 // Why a buffer gets nothing from a line.
 #[derive(Clone, Copy, Debug, PartialEq, Eq)]
@@ -30,7 +32,7 @@ fn lend_zeros(n: u64, buffer: &mut [u8]) -> Result<usize, NotTaken>
 }
 
 // Lends these bytes, where they fit: they stand at the front of the buffer then. Where they are more than the buffer has, it stays.
-pub fn lend_bytes(bytes: &[u8], buffer: &mut [u8]) -> Result<usize, NotTaken>
+fn lend_bytes(bytes: &[u8], buffer: &mut [u8]) -> Result<usize, NotTaken>
     ensures lent { lending result buffer.new ≡ lend_in (Some bytes.now) buffer.old }
     ensures fits { Fits result buffer.old }
 {
@@ -40,6 +42,15 @@ pub fn lend_bytes(bytes: &[u8], buffer: &mut [u8]) -> Result<usize, NotTaken>
     }
     buffer[..size].copy_from_slice(bytes);
     Ok(size)
+}
+
+// Lends the bytes of a file of which a program read `size` bytes into its buffer, where they fit.
+pub fn lend_input(input: &[u8; INPUT], size: usize, buffer: &mut [u8]) -> Result<usize, NotTaken>
+    ensures input_buffer { InputBuffer input.now }
+    ensures lent { lending result buffer.new ≡ lend_in (Some (read_into input.now size)) buffer.old }
+    ensures fits { Fits result buffer.old }
+{
+    lend_bytes(file_in(input, size), buffer)
 }
 
 // Lends the bytes that a text is in hexadecimal, where they fit.

@@ -7,6 +7,6 @@ fn main(rt: HostRuntime) {
     let Ok(size) = files::read_input(&rt, &mut input) else {
         return;
     };
-    let text = lines::report(lines::file_in(&input, size));
+    let text = lines::report(&input, size);
     let _ = files::print(&rt, text.as_bytes());
 }

@@ -1,9 +1,7 @@
 // What the trace calls answer.
 ghost use Rattle.std.specs.Prelude.{◌≡◌};
-ghost use Rattle.trace.specs.Answers.{refusal_number, reading_values, counts_values, three_values, counts_and_sum, survey_values};
+ghost use Rattle.trace.specs.Answers.{refusal_number, reading_values, counts_values, three_values, counts_and_sum, both_parts, survey_values};
 ghost use Rattle.trace.specs.declared.answer.Refusal.TheVariants.{Word};
-
-use arrayvec::ArrayVec;
 
 // Why a call is refused: as a word call is, or for a reason of the trace's own.
 #[derive(Clone, Copy, Debug, PartialEq, Eq)]
@@ -136,16 +134,9 @@ impl Survey {
     }
 
     // The counts and the sum, then smallest, largest and mean where they are present.
-    pub fn values(self) -> ArrayVec<u64, 10>
-        ensures { result.items ≡ survey_values self }
+    pub fn values(self) -> ([u64; 7], Option<[u64; 3]>)
+        ensures { both_parts result.0 result.1 ≡ survey_values self }
     {
-        let mut values = ArrayVec::new();
-        values
-            .try_extend_from_slice(&self.counts_and_sum())
-            .unwrap();
-        if let Some(pressures) = self.pressures {
-            values.try_extend_from_slice(&pressures.values()).unwrap();
-        }
-        values
+        (self.counts_and_sum(), self.pressures.map(Pressures::values))
     }
 }

@@ -1,4 +1,5 @@
--- What `read_all` keeps: `end` is within the buffer, and each turn but the last brings it nearer to the buffer's end.
+-- What `read_all` keeps: the buffer has its length, `end` is within it, and up to there it has what the reader gave. Each turn but the last brings `end` nearer to
+-- the buffer's end.
 use Rattle.std.proofs.Common.{◌≡◌, length, take, ◌-◌, ◌≤◌}
 use Rattle.std.specs.Io.KnownBytes.{Consumes}
 use Rattle.files.proofs.read_all.Given as goal
