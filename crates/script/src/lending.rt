@@ -44,7 +44,7 @@ fn lend_bytes(bytes: &[u8], buffer: &mut [u8]) -> Result<usize, NotTaken>
     Ok(size)
 }
 
-// Lends the bytes of a file of which a program read `size` bytes into its buffer, where they fit.
+// Lends the bytes of a file of which a program read `size` bytes into its buffer, where they fit; else the other buffer stays.
 pub fn lend_input(input: &[u8; INPUT], size: usize, buffer: &mut [u8]) -> Result<usize, NotTaken>
     ensures input_buffer { InputBuffer input.now }
     ensures lent { lending result buffer.new ≡ lend_in (Some (read_into input.now size)) buffer.old }
