@@ -1,31 +1,27 @@
--- What was read is what the reader gave.
-use Rattle.std.proofs.Common.{◌≡◌, ℕ, ◌+◌, ◌-◌, ◌≤◌, List, ◌++◌, rules, arith, length, take, slice_range, Ok, sym, ap, ◌∙◌, subst, le_refl, drop_at, length-take-le}
-use Rattle.std.proofs.lemmas.Slice.{take-put_mid_below}
+-- A read gives the reader's next bytes, which stand behind those that were read before it.
+use Rattle.std.proofs.Common.{◌≡◌, ℕ, ◌+◌, ◌-◌, ◌≤◌, List, ◌++◌, Ok, length, take, length-take-le, rules, sym, ap, ◌∙◌, subst}
+use Rattle.std.proofs.Math.Seq.{take-append-add}
+use Rattle.std.proofs.lemmas.List.{take-append-le}
 use Rattle.std.specs.Io.KnownBytes.{Consumes}
 use Rattle.std.proofs.KnownBytes.{Consumes-trans}
 use borrow.Rule.Slice.PartMut.{put_mid, post_of}
-use lib.Seq.{take-add, take-append-le}
 use Rattle.files.proofs.read_all.Goals as goal
 
-take_split : (a b : ℕ) (old new : List ℕ) → a ≤ b → take a new ≡ take a old → take a old ++ slice_range new a b ≡ take b new
-take_split a b old new h front =
-    let same : a + (b - a) ≡ b = omega arith in
-    ap (λ l. l ++ slice_range new a b) (sym front) ∙ sym (take-add a (b - a) new) ∙ ap (λ n. take n new) same
-
-slice_range-put_mid : (a k n : ℕ) (xs ys : List ℕ) → a ≤ length xs → n ≤ length ys → slice_range (put_mid a k xs ys) a (a + n) ≡ take n ys
-slice_range-put_mid a k n xs ys within fits =
-    let same : (a + n) - a ≡ n = omega arith in
-    let after = post_of a k xs in
-    ap (take ((a + n) - a)) (drop_at (take a xs) (ys ++ after) a (length-take-le a xs within)) ∙ ap (λ m. take m (ys ++ after)) same ∙ take-append-le n ys after fits
+-- the first bytes of a part that is written from `start` on stand behind what the buffer has before it
+behind_start : (start room count : ℕ) (buffer part : List ℕ) → start ≤ length buffer → count ≤ length part
+    → take (start + count) (put_mid start room buffer part) ≡ take start buffer ++ take count part
+behind_start start room count buffer part there fits =
+    let rest = post_of start room buffer in
+    rw (length-take-le start buffer there) at (take-append-add (take start buffer) (part ++ rest) count)
+    ∙ ap (λ l. take start buffer ++ l) (take-append-le count part rest fits)
 
 pub loop-end-preserved : goal.loop-end-preserved
 loop-end-preserved g c =
-    let from = c.loop-end.end in
-    let got : c.read.result ≡ Ok c.in_ok-count.count = search rules in
-    let fits = rw got at c.read.ensures.bound in
-    let given = rw got at c.read.ensures.bytes in
-    let room = length c.loop-end.buf - from in
-    let within = c.loop-end.invariant.1 in
-    let part = slice_range-put_mid from room c.in_ok-count.count c.loop-end.buf c.read.new.buf within fits.0 in
-    let joined = take_split from (from + c.in_ok-count.count) c.loop-end.buf (put_mid from room c.loop-end.buf c.read.new.buf) (omega arith) (take-put_mid_below _ _ _ _ _ (le_refl _) within) in
-    (search rules, search rules, subst (Consumes _ _) (ap (λ l. take from c.loop-end.buf ++ l) (sym part) ∙ joined) (Consumes-trans _ _ _ _ _ c.loop-end.invariant.2 given.0))
+    let before = c.loop-end in
+    let kept = before.invariant in
+    let count = c.in_ok-count.count in
+    let gave : c.read.result ≡ Ok count = search rules in
+    let fits = rw gave at c.read.ensures.bound in
+    let next = rw gave at c.read.ensures.bytes in
+    let joined = behind_start before.end (length before.buf - before.end) count before.buf c.read.new.buf kept.1 fits.0 in
+    (search rules, search rules, subst (Consumes _ _) (sym joined) (Consumes-trans _ _ _ _ _ kept.2 next.0))
