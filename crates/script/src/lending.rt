@@ -32,7 +32,7 @@ fn lend_zeros(n: u64, buffer: &mut [u8]) -> Result<usize, NotTaken>
 }
 
 // Lends these bytes, where they fit: they stand at the front of the buffer then. Where they are more than the buffer has, it stays.
-fn lend_bytes(bytes: &[u8], buffer: &mut [u8]) -> Result<usize, NotTaken>
+pub fn lend_bytes(bytes: &[u8], buffer: &mut [u8]) -> Result<usize, NotTaken>
     ensures lent { lending result buffer.new ≡ lend_in (Some bytes.now) buffer.old }
     ensures fits { Fits result buffer.old }
 {
@@ -78,5 +78,30 @@ pub fn lend(line: &[u8], buffer: &mut [u8]) -> Result<usize, NotTaken>
         Command::Buffer(n) => lend_zeros(n, buffer),
         Command::Hex => lend_pairs(argument(line), buffer),
         _ => Err(NotTaken::Nothing),
+    }
+}
+
+#[cfg(test)]
+mod tests {
+    use super::*;
+
+    // More bytes than the longest input has.
+    const MANY: usize = 70_000;
+
+    #[test]
+    fn lends_more_bytes_than_an_input_has(rt: HostRuntime) {
+        let bytes = [7u8; MANY];
+        let mut buffer = [1u8; MANY + 1];
+        let mut expected = [7u8; MANY + 1];
+        expected[MANY] = 1;
+        assert_eq!(rt; lend_bytes(&bytes, &mut buffer), Ok(MANY));
+        assert_eq!(rt; buffer, expected);
+    }
+
+    #[test]
+    fn lends_no_part_of_the_bytes(rt: HostRuntime) {
+        let mut buffer = [1u8; 2];
+        assert_eq!(rt; lend_bytes(&[7, 8, 9], &mut buffer), Err(NotTaken::TooMany));
+        assert_eq!(rt; buffer, [1, 1]);
     }
 }

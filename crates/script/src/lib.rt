@@ -16,7 +16,7 @@ mod words;
 
 pub use answering::{answer, answer_list};
 pub use held::{Held, LINE};
-pub use lending::{NotTaken, lend, lend_input};
+pub use lending::{NotTaken, lend, lend_bytes, lend_input};
 pub use line::{Call, Command, parse_line};
 pub use lists::Puts;
 pub use parts::{argument, bare};
